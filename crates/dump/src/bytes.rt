@@ -1,0 +1,21 @@
+// Numbers in a dump, low byte first.
+ghost use mathlib.Core.Path.{_≡_};
+ghost use Prim.Native.Nat.{_+_, _≤_};
+ghost use lib.ListN.{length};
+ghost use Rattle.dump.specs.Bytes.{word as wordAt, unit as unitAt};
+
+// The word of 4 bytes at `p`.
+pub fn word(dump: &[u8], p: usize) -> u32
+    requires { ⌜ p + 4 ≤ length (now dump) ⌝ }
+    ensures { λ r. ⌜ r ≡ wordAt (now (dump .entry)) p ⌝ }
+{
+    u32::from_le_bytes([dump[p], dump[p + 1], dump[p + 2], dump[p + 3]])
+}
+
+// The unit of 2 bytes at `p`.
+pub fn unit(dump: &[u8], p: usize) -> u16
+    requires { ⌜ p + 2 ≤ length (now dump) ⌝ }
+    ensures { λ r. ⌜ r ≡ unitAt (now (dump .entry)) p ⌝ }
+{
+    u16::from_le_bytes([dump[p], dump[p + 1]])
+}
