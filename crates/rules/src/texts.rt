@@ -9,8 +9,8 @@ ghost use Rattle.rules.specs.Texts.{textRow, textRows, sameNumeral, numeralRow
 use dump::raw::Raw;
 use dump::refusal::Refusal;
 use dump::row::Run;
-use numeral::order::before;
-use numeral::pair::is_pair;
+use numeral::numerals::is_pair;
+use numeral::texts::before;
 
 // The units of a text, which lie in the dump.
 pub fn run_of(raw: &Raw<'_>, text: usize) -> Run
