@@ -11,7 +11,7 @@ use Rattle.std.specs.declared.result.Result.{Result}
 use Rattle.std.specs.declared.result.Result.the-variants.{Ok, Err}
 use Rattle.std.proofs.shelf.Tests.{cases-eq, both-ways}
 use Rattle.dump.specs.declared.refusal.Refusal.{Refusal}
-use Rattle.dump.specs.Rules.{Verdict, Rule, rule, judge, andThen, each, anyBelow}
+use Rattle.dump.specs.Rules.{Verdict, Rule, rule, judge, Hold, andThen, each, anyBelow}
 
 module _ (f : ℕ → Verdict) where
   pub each-more : (i : ℕ) → each f i ≡ Ok tt → f i ≡ Ok tt → each f (i + 1) ≡ Ok tt
@@ -24,6 +24,17 @@ module _ (f : ℕ → Verdict) where
       (λ (same : i ≡ n). rw (← same, h) r)
       (λ (apart : i ≡ n → ⊥). rw (each-stop i n e h r (omega arith)) refl)
       (cases-eq i n)
+
+-- a record passes exactly if every rule holds
+pub judge-holds : (s i : ℕ) (rules : List Rule) → isOk (judge s i rules) ≡ true → Hold rules
+judge-holds s i [] h = tt
+judge-holds s i (rule k true ∷ rules) h = (refl, judge-holds s i rules h)
+judge-holds s i (rule k false ∷ rules) h = absurd (both-ways _ refl h)
+
+pub judge-passes : (s i : ℕ) (rules : List Rule) → Hold rules → isOk (judge s i rules) ≡ true
+judge-passes s i [] h = refl
+judge-passes s i (rule k true ∷ rules) h = judge-passes s i rules (h .1)
+judge-passes s i (rule k false ∷ rules) h = absurd (both-ways _ refl (h .0))
 
 -- of two verdicts in a row that pass, each passes
 pub then-parts : {A : Type 0} (x : Verdict) (y : Result A Refusal) → isOk (andThen x (λ _. y)) ≡ true → (isOk x ≡ true) × (isOk y ≡ true)

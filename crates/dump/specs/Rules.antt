@@ -1,4 +1,5 @@
 -- Rules with their numbers: a record is refused by the first rule that fails, a list of records by its first such record.
+use mathlib.Core.Path.{_≡_}
 use mathlib.Core.List.{List, [], _∷_}
 use mathlib.Core.Bool.{Bool, true, false, cond}
 use Prim.Native.Nat.{ℕ, zero, suc}
@@ -25,6 +26,11 @@ pub data Rule : Type 0 where
 abbrev pub judge : ℕ → ℕ → List Rule → Verdict
 judge s i [] = Ok tt
 judge s i (rule k holds ∷ rules) = cond holds (judge s i rules) (refuse k s i)
+
+-- every rule holds
+abbrev pub Hold : List Rule → Type 0
+Hold [] = Unit {0}
+Hold (rule k holds ∷ rules) = (holds ≡ true) × Hold rules
 
 -- the first refusal among the records below n
 abbrev pub each : (ℕ → Verdict) → ℕ → Verdict

@@ -130,7 +130,11 @@ fn index_ok(raw: &Raw<'_>, limit: u32, first: usize, k: usize) -> bool
     ensures { λ r. ⌜ r ≡ indexOk (bytes (now (raw .entry))) (now (raw .entry) .layout) limit first k ⌝ }
 {
     let key = raw.key(first + k);
-    let most = if key.tag == 3 { 0x8000_0000 } else { 0xffff_ffff };
+    let most = if key.tag == 3 {
+        0x8000_0000
+    } else {
+        0xffff_ffff
+    };
     if key.low >= most || key.low >= limit {
         return false;
     }
@@ -194,13 +198,20 @@ fn identity(raw: &Raw<'_>, role: Role, p: usize) -> Cell
     }
 }
 
+fn same_as(raw: &Raw<'_>, role: Role, cell: Cell, p: usize) -> bool
+    requires { ⌜ p < now raw .layout .parts .count ⌝ }
+    ensures { λ r. ⌜ r ≡ sameZero cell (identityOf (bytes (now (raw .entry))) (now (raw .entry) .layout) role p) ⌝ }
+{
+    same_zero(cell, identity(raw, role, p))
+}
+
 // One before the part `k` of a run is the same as `cell`.
 fn same_before(raw: &Raw<'_>, role: Role, cell: Cell, first: usize, k: usize) -> bool
     requires { ⌜ first + k < now raw .layout .parts .count ⌝ }
     ensures { λ r. ⌜ r ≡ anyBelow (λ j. sameZero cell (identityOf (bytes (now (raw .entry))) (now (raw .entry) .layout) role (first + j))) k ⌝ }
 {
     for j in 0..k {
-        if same_zero(cell, identity(raw, role, first + j)) {
+        if same_as(raw, role, cell, first + j) {
             return true;
         }
     }

@@ -1,5 +1,6 @@
 // All rows of a dump, in the order of the walk.
 ghost use mathlib.Core.Path.{_≡_};
+ghost use Prim.Native.Nat.{_≤_};
 ghost use Rattle.dump.specs.Raws.{bytes};
 ghost use Rattle.rules.specs.Verdicts.{allUsed, rowsOf};
 use super::cells::root_row;
