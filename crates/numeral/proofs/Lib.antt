@@ -1,0 +1,6 @@
+pub mod Runs
+pub mod Values
+pub mod Points
+pub mod Orders
+pub mod Laws
+pub mod Examples

@@ -1,0 +1,4 @@
+pub mod Words
+pub mod Order
+pub mod Digits
+pub mod Numerals

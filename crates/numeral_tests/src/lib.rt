@@ -1,0 +1,3 @@
+// Tests of the crate `numeral`: texts by their bytes.
+#[cfg(test)]
+mod tests;
