@@ -70,9 +70,12 @@ numberIn (bigint t) = None
 numberIn (text t) = None
 numberIn (object o) = None
 
--- ECMA-262's SameValueZero
+-- ECMA-262's SameValueZero: two numbers by their doubles, anything else if equal
+abbrev pub SameNumbers : Value → Value → Type 0
+SameNumbers v w = (x : Float) × (y : Float) × (numberIn v ≡ Some x) × (numberIn w ≡ Some y) × (sameNumber x y ≡ true)
+
 abbrev pub SameValueZero : Value → Value → Type 0
-SameValueZero v w = ((x : Float) × (y : Float) × (numberIn v ≡ Some x) × (numberIn w ≡ Some y) × (sameNumber x y ≡ true)) ⊎ (v ≡ w)
+SameValueZero v w = SameNumbers v w ⊎ ((numberIn v ≡ None) × (v ≡ w))
 
 -- a value that a Map keeps as its key: minus zero would become zero
 abbrev pub Kept : ℕ → Value → Type 0
