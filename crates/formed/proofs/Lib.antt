@@ -1,7 +1,10 @@
 pub mod Verdict
+pub mod Layouts
 pub mod Lists
 pub mod Words
 pub mod Texts
 pub mod Values
 pub mod SameValues
 pub mod Parts
+pub mod Objects
+pub mod Heaps

@@ -42,3 +42,19 @@ module _ (b : List ℕ) (bytes : areBytes b ≡ true) where
   pub high-below : (p : ℕ) → cellAt b p .high < 4294967296
   unfolding cellAt
   high-below p = word-below (p + 8)
+
+  pub a-below : (l : Layout) (i : ℕ) → rowAt b l i .a < 4294967296
+  unfolding rowAt
+  a-below l i = word-below _
+
+  pub b-below : (l : Layout) (i : ℕ) → rowAt b l i .b < 4294967296
+  unfolding rowAt
+  b-below l i = word-below _
+
+  pub c-below : (l : Layout) (i : ℕ) → rowAt b l i .c < 4294967296
+  unfolding rowAt
+  c-below l i = word-below _
+
+  pub d-below : (l : Layout) (i : ℕ) → rowAt b l i .d < 4294967296
+  unfolding rowAt
+  d-below l i = word-below _
