@@ -1,1 +1,2 @@
 pub mod Heaps
+pub mod Exact

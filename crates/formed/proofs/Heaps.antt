@@ -56,16 +56,18 @@ module _ (b : List ℕ) (l : Layout) (bytes : areBytes b ≡ true) (s : Sound b 
   numerals-apart i j h g = or-parts _ _ (none-passes (sameNumeral b l j) j i (not-true _ (and-parts _ _ (s .numerals j g .1 .0) .1)) h)
 
   lawful : Lawful (heapOf b l .numerals)
-  lawful =
-      (all-counting (λ (n : Numeral). isPair (n .bits) (n .digits) ≡ true) (numeralOf b l) 0 (l .numerals .count) (λ k g. numeral-rule (0 + k) (omega arith) .1)
-      , pairwise-counting (λ (m n : Numeral). (m .bits ≡ n .bits → ⊥) × (m .digits ≡ n .digits → ⊥)) (numeralOf b l) 0 (l .numerals .count) (λ i j h g. apart (0 + i) (0 + j) (omega arith) (omega arith)))
+  lawful = (
+    all-counting (λ (n : Numeral). isPair (n .bits) (n .digits) ≡ true) (numeralOf b l) 0 (l .numerals .count) (λ k g. numeral-rule (0 + k) (omega arith) .1),
+    pairwise-counting (λ (m n : Numeral). (m .bits ≡ n .bits → ⊥) × (m .digits ≡ n .digits → ⊥)) (numeralOf b l) 0 (l .numerals .count) (λ i j h g. apart (0 + i) (0 + j) (omega arith) (omega arith)),
+  )
     where
       apart : (i j : ℕ) → i < j → j < l .numerals .count → (numeralBits b l i ≡ numeralBits b l j → ⊥) × (textOf b l (numeralText b l i) ≡ textOf b l (numeralText b l j) → ⊥)
       apart i j h g =
           let there : i < l .numerals .count = omega arith in
-          let x = numerals-apart i j h g in
-          (λ e. eqb-false (numeralBits b l j) (numeralBits b l i) (x .1) (sym e)
-          , λ e. eqb-false (numeralText b l j) (numeralText b l i) (x .0) (sym (same-text b l s (numeralText b l i) (numeralText b l j) (numeral-rule i there .0) (numeral-rule j g .0) e)))
+          let x = numerals-apart i j h g in (
+            λ e. eqb-false (numeralBits b l j) (numeralBits b l i) (x .1) (sym e),
+            λ e. eqb-false (numeralText b l j) (numeralText b l i) (x .0) (sym (same-text b l s (numeralText b l i) (numeralText b l j) (numeral-rule i there .0) (numeral-rule j g .0) e)),
+          )
 
   root-formed : ValueFormed (l .objects .count) (heapOf b l .root)
   root-formed =

@@ -32,6 +32,7 @@ section-most b s p least limit size x h = go (ltb (length b) (p + 4)) (ltb limit
   where
     made : Section
     made = record { start = p + 4; count = word b p }
+
     go : (t u v w : Bool) → ltb limit (word b p) ≡ u → cond t (refuse 1 s 0) (cond (u || v) (refuse 2 s 0) (cond w (refuse 1 s 0) (Ok made))) ≡ Ok x → x .count ≤ limit
     go true u v w e h = absurd (let z : _≡_ {A = ℕ} 0 1 = cc in omega arith)
     go false true v w e h = absurd (let z : _≡_ {A = ℕ} 0 1 = cc in omega arith)

@@ -40,11 +40,12 @@ use Rattle.formed.proofs.Words.{word-below, units-below, bytes-below}
 upto13 : (P : ℕ → Type 0) → P 0 → P 1 → P 2 → P 3 → P 4 → P 5 → P 6 → P 7 → P 8 → P 9 → P 10 → P 11 → P 12 → P 13 → (n : ℕ) → n ≤ 13 → P n
 upto13 P a b c d e f g h i j k l m n q w =
     ⊎-elim (λ (x : q ≤ 9). upto9 P a b c d e f g h i j q x) (λ (x : 10 ≤ q).
-      let y : 10 + (q - 10) ≡ q = omega arith in subst P y (rest (q - 10) (omega arith)))
+    let y : 10 + (q - 10) ≡ q = omega arith in subst P y (rest (q - 10) (omega arith)))
     (small q)
   where
     small : (q : ℕ) → (q ≤ 9) ⊎ (10 ≤ q)
     small q = ⊎-elim (λ (e : leb q 9 ≡ true). inl (leb-true q 9 e)) (λ (e : leb q 9 ≡ false). inr (grind (arith, tells))) (cases-bool (leb q 9))
+
     rest : (x : ℕ) → x ≤ 3 → P (10 + x)
     rest zero h = k
     rest (suc zero) h = l
@@ -57,6 +58,7 @@ kind-small r h = ⊎-elim (λ (e : leb (r .kind) 13 ≡ true). leb-true (r .kind
   where
     no : (n k : ℕ) → 13 < n → k ≤ 13 → eqb n k ≡ false
     no n k g f = ne-eqb n k (λ e. omega arith)
+
     unknown : 13 < r .kind → ⊥
     unknown g =
         let n : (k : ℕ) → k ≤ 13 → eqb (r .kind) k ≡ false = λ k f. no (r .kind) k g f in
@@ -67,8 +69,10 @@ time-fits n fits h = go (ltb n 9223372036854775808) refl
   where
     early : (n : ℕ) → timeOk n ≡ true → n < 9223372036854775808 → n ≤ 8640000000000000
     early n h l = grind (arith, tells)
+
     late : (n : ℕ) → timeOk n ≡ true → 9223372036854775808 ≤ n → 18438104073709551616 ≤ n
     late n h l = grind (arith, tells)
+
     go : (t : Bool) → ltb n 9223372036854775808 ≡ t → TimeFits (Some (sel t (pos n) (negsuc (18446744073709551616 - suc n))))
     go true e = early n h (ltb-true n 9223372036854775808 e)
     go false e = omega (arith, late n h (ltb-false n 9223372036854775808 e))
@@ -152,15 +156,16 @@ module _ (b : List ℕ) (l : Layout) (bytes : areBytes b ≡ true) (s : Sound b 
       → All (ElementFormed (l .objects .count)) (map (elementAt b l) (counting a n))
       → Properties (l .objects .count) 0 true (map (propertyAt b l) (counting c d))
       → (n ≤ length (map (elementAt b l) (counting a n) ++ map (propertyAt b l) (counting c d)))
-        × All (ElementFormed (l .objects .count)) (take n (map (elementAt b l) (counting a n) ++ map (propertyAt b l) (counting c d)))
-        × Properties (l .objects .count) 0 true (drop n (map (elementAt b l) (counting a n) ++ map (propertyAt b l) (counting c d)))
+      × All (ElementFormed (l .objects .count)) (take n (map (elementAt b l) (counting a n) ++ map (propertyAt b l) (counting c d)))
+      × Properties (l .objects .count) 0 true (drop n (map (elementAt b l) (counting a n) ++ map (propertyAt b l) (counting c d)))
   dense-parts a n c d es ps =
       let xs = map (elementAt b l) (counting a n) in
       let ys = map (propertyAt b l) (counting c d) in
-      let size : length xs ≡ n = length-map-counting (elementAt b l) a n in
-      (omega (arith, length-append xs ys, size)
-      , subst (All (ElementFormed (l .objects .count))) (sym (take-at xs ys n size)) es
-      , subst (Properties (l .objects .count) 0 true) (sym (drop-at xs ys n size)) ps)
+      let size : length xs ≡ n = length-map-counting (elementAt b l) a n in (
+        omega (arith, length-append xs ys, size),
+        subst (All (ElementFormed (l .objects .count))) (sym (take-at xs ys n size)) es,
+        subst (Properties (l .objects .count) 0 true) (sym (drop-at xs ys n size)) ps,
+      )
 
   pub row-formed : (r : Row) → Row-kept b l r → KindFormed (kindOf b l r) × PartsFormed (heapOf b l) (l .objects .count) (kindOf b l r) (partsOf b l r)
   row-formed r k =
@@ -187,5 +192,6 @@ module _ (b : List ℕ) (l : Layout) (bytes : areBytes b ≡ true) (s : Sound b 
           go : (t : Bool) → cond t (leb (r .b) (r .d)) true ≡ true → MaximumFits (r .b) (cond t (Some (r .d)) None)
           go true h = (leb-true (r .b) (r .d) h, k .d-below)
           go false h = tt
+
       few : (leb (r .a) 6 && leb (r .e) 1) ≡ true → r .e ≤ 1
       few h = leb-true (r .e) 1 (and-parts (leb (r .a) 6) (leb (r .e) 1) h .1)

@@ -106,17 +106,19 @@ module _ (b : List ℕ) (l : Layout) (bytes : areBytes b ≡ true) (s : Sound b 
     key-formed k g =
         ⊎-elim
         (λ (e : eqb (cell k .tag) 7 ≡ true).
-          let n = name-parts k g e in
-          subst (KeyFormed limit array) (sym (key-name (cell k) e))
-          (units-below b bytes _ _
-          , n .0
-          , λ a.
-            let w = or-parts _ _ (not-false array (reserved b l (cell k .low)) (n .1) a) in
-            (not-from-decides _ (same-units (textOf b l (cell k .low)) (codes "length")) (w .0)
-            , not-from-decides _ (same-units (textOf b l (cell k .low)) (codes "__proto__")) (w .1))))
+        let n = name-parts k g e in
+        subst (KeyFormed limit array) (sym (key-name (cell k) e)) (
+          units-below b bytes _ _,
+          n .0,
+          λ a.
+              let w = or-parts _ _ (not-false array (reserved b l (cell k .low)) (n .1) a) in (
+                not-from-decides _ (same-units (textOf b l (cell k .low)) (codes "length")) (w .0),
+                not-from-decides _ (same-units (textOf b l (cell k .low)) (codes "__proto__")) (w .1),
+              ),
+        ))
         (λ (e : eqb (cell k .tag) 7 ≡ false).
-          subst (KeyFormed limit array) (sym (key-index (cell k) e))
-          (index-below (cell k .low) _ limit _ (at-index k g e) .0))
+        subst (KeyFormed limit array) (sym (key-index (cell k) e))
+        (index-below (cell k .low) _ limit _ (at-index k g e) .0))
         (cases-bool (eqb (cell k .tag) 7))
 
     -- an index key comes after lower ones alone
@@ -145,10 +147,10 @@ module _ (b : List ℕ) (l : Layout) (bytes : areBytes b ≡ true) (s : Sound b 
         ⊎-elim
         (λ (e : eqb (cell j .tag) 7 ≡ true). subst (KeyBefore (keyOf b l (cell i))) (sym (key-name (cell j) e)) (to-name e (cases-bool (eqb (cell i .tag) 7))))
         (λ (e : eqb (cell j .tag) 7 ≡ false).
-          let m : i + ((j - (i + 1)) + 1) ≡ j = omega arith in
-          let x = before-indexes i (j - (i + 1)) (omega arith) (subst (λ k. eqb (cell k .tag) 7 ≡ false) (sym m) e) in
-          let y = subst (λ k. cell i .low < cell k .low) m (x .1) in
-          rw (key-index (cell i) (x .0), key-index (cell j) e) y)
+        let m : i + ((j - (i + 1)) + 1) ≡ j = omega arith in
+        let x = before-indexes i (j - (i + 1)) (omega arith) (subst (λ k. eqb (cell k .tag) 7 ≡ false) (sym m) e) in
+        let y = subst (λ k. cell i .low < cell k .low) m (x .1) in
+        rw (key-index (cell i) (x .0), key-index (cell j) e) y)
         (cases-bool (eqb (cell j .tag) 7))
       where
         to-name : eqb (cell j .tag) 7 ≡ true → (eqb (cell i .tag) 7 ≡ true) ⊎ (eqb (cell i .tag) 7 ≡ false) → KeyBefore (keyOf b l (cell i)) (name (textOf b l (cell j .low)))
@@ -156,22 +158,27 @@ module _ (b : List ℕ) (l : Layout) (bytes : areBytes b ≡ true) (s : Sound b 
         to-name e (inl f) =
             rw (key-name (cell i) f)
             (λ same.
-              let there : i < count = omega arith in
-              let z = none-passes (λ k. named b l (cell j .low) (first + k)) j i (name-parts j g e .2) h in
-              let p = name-there (cell i) f (key-placed (record { role = Property limit array; first = first; count = count }) i (holds i there) .place) in
-              let q = name-there (cell j) e (key-placed (record { role = Property limit array; first = first; count = count }) j (holds j g) .place) in
-              let t = same-text b l s (cell i .low) (cell j .low) p q same in
-              both-ways (named b l (cell j .low) (first + i)) z (and-from (eqb (cell i .tag) 7) (eqb (cell i .low) (cell j .low)) f (eq-eqb (cell i .low) (cell j .low) t)))
+            let there : i < count = omega arith in
+            let z = none-passes (λ k. named b l (cell j .low) (first + k)) j i (name-parts j g e .2) h in
+            let p = name-there (cell i) f (key-placed (record { role = Property limit array; first = first; count = count }) i (holds i there) .place) in
+            let q = name-there (cell j) e (key-placed (record { role = Property limit array; first = first; count = count }) j (holds j g) .place) in
+            let t = same-text b l s (cell i .low) (cell j .low) p q same in
+            both-ways (named b l (cell j .low) (first + i)) z (and-from (eqb (cell i .tag) 7) (eqb (cell i .low) (cell j .low)) f (eq-eqb (cell i .low) (cell j .low) t)))
 
     pub properties : Properties (l .objects .count) limit array (map (propertyAt b l) (counting first count))
-    properties =
-        (all-counting (PropertyFormed (l .objects .count) limit array) (propertyAt b l) first count (λ k g.
-          (keyOf b l (cell k), valueOf b l (valueAt b l (first + k)), refl, key-formed k g
-          , value-formed b l bytes (valueAt b l (first + k)) (value-placed (record { role = Property limit array; first = first; count = count }) k (holds k g))))
-        , pairwise-counting PropertyBefore (propertyAt b l) first count (λ i j h g k k′ v v′ e f.
+    properties = (
+      all-counting (PropertyFormed (l .objects .count) limit array) (propertyAt b l) first count (λ k g. (
+        keyOf b l (cell k),
+        valueOf b l (valueAt b l (first + k)),
+        refl,
+        key-formed k g,
+        value-formed b l bytes (valueAt b l (first + k)) (value-placed (record { role = Property limit array; first = first; count = count }) k (holds k g)),
+      )),
+      pairwise-counting PropertyBefore (propertyAt b l) first count (λ i j h g k k′ v v′ e f.
           let x : keyOf b l (cell i) ≡ k = cc in
           let y : keyOf b l (cell j) ≡ k′ = cc in
-          subst (KeyBefore k) y (subst (λ z. KeyBefore z (keyOf b l (cell j))) x (keys-before i j h g))))
+          subst (KeyBefore k) y (subst (λ z. KeyBefore z (keyOf b l (cell j))) x (keys-before i j h g))),
+    )
 
   -- elements and causes
   pub elements : (first count : ℕ) → ((k : ℕ) → k < count → Hold (partRules b l (record { role = Element; first = first; count = count }) k)) → All (ElementFormed (l .objects .count)) (map (elementAt b l) (counting first count))
@@ -192,17 +199,21 @@ module _ (b : List ℕ) (l : Layout) (bytes : areBytes b ≡ true) (s : Sound b 
     entry-key k g = key-placed (record { role = Entry; first = first; count = count }) k (holds k g)
 
     pub entries : All (EntryFormed (l .objects .count)) (map (entryAt b l) (counting first count)) × Pairwise EntryApart (map (entryAt b l) (counting first count))
-    entries =
-        (all-counting (EntryFormed (l .objects .count)) (entryAt b l) first count (λ k g.
-          (valueOf b l (keyAt b l (first + k)), valueOf b l (valueAt b l (first + k)), refl
-          , kept (keyAt b l (first + k)) (entry-key k g) (and-parts _ _ (holds k g .1 .1 .1 .1 .0) .0)
-          , value-formed b l bytes (valueAt b l (first + k)) (value-placed (record { role = Entry; first = first; count = count }) k (holds k g))))
-        , pairwise-counting EntryApart (entryAt b l) first count (λ i j h g k k′ v v′ e f same.
+    entries = (
+      all-counting (EntryFormed (l .objects .count)) (entryAt b l) first count (λ k g. (
+        valueOf b l (keyAt b l (first + k)),
+        valueOf b l (valueAt b l (first + k)),
+        refl,
+        kept (keyAt b l (first + k)) (entry-key k g) (and-parts _ _ (holds k g .1 .1 .1 .1 .0) .0),
+        value-formed b l bytes (valueAt b l (first + k)) (value-placed (record { role = Entry; first = first; count = count }) k (holds k g)),
+      )),
+      pairwise-counting EntryApart (entryAt b l) first count (λ i j h g k k′ v v′ e f same.
           let x : valueOf b l (keyAt b l (first + i)) ≡ k = cc in
           let y : valueOf b l (keyAt b l (first + j)) ≡ k′ = cc in
           let z = subst (λ w. SameValueZero w (valueOf b l (keyAt b l (first + j)))) (sym x) (subst (SameValueZero k) (sym y) same) in
           let found = same-found b l s (keyAt b l (first + j)) (keyAt b l (first + i)) (entry-key j g) (entry-key i (omega arith)) (same-value-sym _ _ z) in
-          both-ways _ (none-passes (λ n. sameZero (keyAt b l (first + j)) (keyAt b l (first + n))) j i (not-true _ (and-parts _ _ (holds j g .1 .1 .1 .1 .0) .1)) h) found))
+          both-ways _ (none-passes (λ n. sameZero (keyAt b l (first + j)) (keyAt b l (first + n))) j i (not-true _ (and-parts _ _ (holds j g .1 .1 .1 .1 .0) .1)) h) found),
+    )
 
   -- members
   module _ (first count : ℕ) (holds : (k : ℕ) → k < count → Hold (partRules b l (record { role = Member; first = first; count = count }) k)) where
@@ -210,13 +221,16 @@ module _ (b : List ℕ) (l : Layout) (bytes : areBytes b ≡ true) (s : Sound b 
     member-value k g = value-placed (record { role = Member; first = first; count = count }) k (holds k g)
 
     pub members : All (MemberFormed (l .objects .count)) (map (memberAt b l) (counting first count)) × Pairwise MemberApart (map (memberAt b l) (counting first count))
-    members =
-        (all-counting (MemberFormed (l .objects .count)) (memberAt b l) first count (λ k g.
-          (valueOf b l (valueAt b l (first + k)), refl
-          , kept (valueAt b l (first + k)) (member-value k g) (and-parts _ _ (holds k g .1 .1 .1 .1 .0) .0)))
-        , pairwise-counting MemberApart (memberAt b l) first count (λ i j h g v v′ e f same.
+    members = (
+      all-counting (MemberFormed (l .objects .count)) (memberAt b l) first count (λ k g. (
+        valueOf b l (valueAt b l (first + k)),
+        refl,
+        kept (valueAt b l (first + k)) (member-value k g) (and-parts _ _ (holds k g .1 .1 .1 .1 .0) .0),
+      )),
+      pairwise-counting MemberApart (memberAt b l) first count (λ i j h g v v′ e f same.
           let x : valueOf b l (valueAt b l (first + i)) ≡ v = cc in
           let y : valueOf b l (valueAt b l (first + j)) ≡ v′ = cc in
           let z = subst (λ w. SameValueZero w (valueOf b l (valueAt b l (first + j)))) (sym x) (subst (SameValueZero v) (sym y) same) in
           let found = same-found b l s (valueAt b l (first + j)) (valueAt b l (first + i)) (member-value j g) (member-value i (omega arith)) (same-value-sym _ _ z) in
-          both-ways _ (none-passes (λ n. sameZero (valueAt b l (first + j)) (valueAt b l (first + n))) j i (not-true _ (and-parts _ _ (holds j g .1 .1 .1 .1 .0) .1)) h) found))
+          both-ways _ (none-passes (λ n. sameZero (valueAt b l (first + j)) (valueAt b l (first + n))) j i (not-true _ (and-parts _ _ (holds j g .1 .1 .1 .1 .0) .1)) h) found),
+    )

@@ -122,37 +122,39 @@ module _ (b : List ℕ) (l : Layout) where
     same-words =
         upto9 (λ t. v .tag ≡ t → numberIn (valueOf b l v) ≡ None → sameZero v w ≡ true)
         (λ e n. let f = tag-is 0 e (λ i. omega arith) (λ i. omega arith) in
-          let z = both-zero (v .low) (v .high) (w .low) (w .high) (rw e at (p .tag)) (rw f at (q .tag)) in
-          words 0 e f (rw e refl) (z .0) (z .1))
+        let z = both-zero (v .low) (v .high) (w .low) (w .high) (rw e at (p .tag)) (rw f at (q .tag)) in
+        words 0 e f (rw e refl) (z .0) (z .1))
         (λ e n. let f = tag-is 1 e (λ i. omega arith) (λ i. omega arith) in
-          let z = both-zero (v .low) (v .high) (w .low) (w .high) (rw e at (p .tag)) (rw f at (q .tag)) in
-          words 1 e f (rw e refl) (z .0) (z .1))
+        let z = both-zero (v .low) (v .high) (w .low) (w .high) (rw e at (p .tag)) (rw f at (q .tag)) in
+        words 1 e f (rw e refl) (z .0) (z .1))
         (λ e n. let f = tag-is 2 e (λ i. omega arith) (λ i. omega arith) in
-          let k : boolean (eqb (v .low) 1) ≡ boolean (eqb (w .low) 1) = rw (e, f) at same in
-          let m : eqb (v .low) 1 ≡ eqb (w .low) 1 = cc in
-          let z = same-bit (v .low) (v .high) (w .low) (w .high) (rw e at (p .tag)) (rw f at (q .tag)) m in
-          words 2 e f (rw e refl) (z .0) (z .1))
+        let k : boolean (eqb (v .low) 1) ≡ boolean (eqb (w .low) 1) = rw (e, f) at same in
+        let m : eqb (v .low) 1 ≡ eqb (w .low) 1 = cc in
+        let z = same-bit (v .low) (v .high) (w .low) (w .high) (rw e at (p .tag)) (rw f at (q .tag)) m in
+        words 2 e f (rw e refl) (z .0) (z .1))
         (λ e n. some (rw e at n))
         (λ e n. some (rw e at n))
         (λ e n. some (rw e at n))
         (λ e n. let f = tag-is 6 e (λ i. omega arith) (λ i. omega arith) in
-          let k : bigint (textOf b l (v .low)) ≡ bigint (textOf b l (w .low)) = rw (e, f) at same in
-          let m : textOf b l (v .low) ≡ textOf b l (w .low) = cc in
-          words 6 e f (rw e refl) (texts-same 6 (ltb-true _ _ (rw e at (p .place))) (ltb-true _ _ (rw f at (q .place))) m) (high-zero (rw e at (p .tag)) (rw f at (q .tag))))
+        let k : bigint (textOf b l (v .low)) ≡ bigint (textOf b l (w .low)) = rw (e, f) at same in
+        let m : textOf b l (v .low) ≡ textOf b l (w .low) = cc in
+        words 6 e f (rw e refl) (texts-same 6 (ltb-true _ _ (rw e at (p .place))) (ltb-true _ _ (rw f at (q .place))) m) (high-zero (rw e at (p .tag)) (rw f at (q .tag))))
         (λ e n. let f = tag-is 7 e (λ i. omega arith) (λ i. omega arith) in
-          let k : text (textOf b l (v .low)) ≡ text (textOf b l (w .low)) = rw (e, f) at same in
-          let m : textOf b l (v .low) ≡ textOf b l (w .low) = cc in
-          words 7 e f (rw e refl) (texts-same 7 (ltb-true _ _ (rw e at (p .place))) (ltb-true _ _ (rw f at (q .place))) m) (high-zero (rw e at (p .tag)) (rw f at (q .tag))))
+        let k : text (textOf b l (v .low)) ≡ text (textOf b l (w .low)) = rw (e, f) at same in
+        let m : textOf b l (v .low) ≡ textOf b l (w .low) = cc in
+        words 7 e f (rw e refl) (texts-same 7 (ltb-true _ _ (rw e at (p .place))) (ltb-true _ _ (rw f at (q .place))) m) (high-zero (rw e at (p .tag)) (rw f at (q .tag))))
         (λ e n. let f = tag-is 8 e (λ i. omega arith) (λ i. omega arith) in
-          let k : object (v .low) ≡ object (w .low) = rw (e, f) at same in
-          words 8 e f (rw e refl) (let m : v .low ≡ w .low = cc in m) (high-zero (rw e at (p .tag)) (rw f at (q .tag))))
+        let k : object (v .low) ≡ object (w .low) = rw (e, f) at same in
+        words 8 e f (rw e refl) (let m : v .low ≡ w .low = cc in m) (high-zero (rw e at (p .tag)) (rw f at (q .tag))))
         (λ e n. absurd (let z : false ≡ true = rw e at (p .tag) in let y : _≡_ {A = ℕ} 0 1 = cc in omega arith))
         (v .tag) (tag-small false v (p .tag)) refl
       where
         some : {P : Type 0} {x : Float} → Some x ≡ None → P
         some h = absurd (let z : _≡_ {A = ℕ} 0 1 = cc in omega arith)
+
         texts-same : (t : ℕ) → v .low < l .texts .count → w .low < l .texts .count → textOf b l (v .low) ≡ textOf b l (w .low) → v .low ≡ w .low
         texts-same t h g m = same-text b l s (v .low) (w .low) h g m
+
         high-zero : eqb (v .high) 0 ≡ true → eqb (w .high) 0 ≡ true → v .high ≡ w .high
         high-zero h g = zero-both (v .high) (w .high) h g
 

@@ -62,10 +62,10 @@ module _ (b : List ℕ) (l : Layout) where
       (then-from (numeralRows b l) _ (rows-pass (numeralRow b l) (l .numerals .count) (λ i g. judge-passes 3 i (numeralRules b l i) (s .numerals i g)))
       (then-from (objectRows b l) _ (rows-pass (objectRow b l) (l .objects .count) (λ i g. judge-passes 5 i (objectRules b l i) (s .objects i g)))
       (then-from (each (objectParts b l) (l .objects .count)) _
-        (rows-pass (objectParts b l) (l .objects .count) (λ i g.
-          then-from (partRun b l (firstRun (rowAt b l i))) _
-            (rows-pass (partRow b l (firstRun (rowAt b l i))) (firstRun (rowAt b l i) .count) (λ k f. judge-passes 6 (firstRun (rowAt b l i) .first + k) (partRules b l (firstRun (rowAt b l i)) k) (s .parts i k g f)))
-            (rows-pass (partRow b l (secondRun (rowAt b l i))) (secondRun (rowAt b l i) .count) (λ k f. judge-passes 6 (secondRun (rowAt b l i) .first + k) (partRules b l (secondRun (rowAt b l i)) k) (s .more-parts i k g f)))))
+      (rows-pass (objectParts b l) (l .objects .count) (λ i g.
+      then-from (partRun b l (firstRun (rowAt b l i))) _
+      (rows-pass (partRow b l (firstRun (rowAt b l i))) (firstRun (rowAt b l i) .count) (λ k f. judge-passes 6 (firstRun (rowAt b l i) .first + k) (partRules b l (firstRun (rowAt b l i)) k) (s .parts i k g f)))
+      (rows-pass (partRow b l (secondRun (rowAt b l i))) (secondRun (rowAt b l i) .count) (λ k f. judge-passes 6 (secondRun (rowAt b l i) .first + k) (partRules b l (secondRun (rowAt b l i)) k) (s .more-parts i k g f)))))
       (then-from (partRun b l (looseRun b l)) _ (rows-pass (partRow b l (looseRun b l)) (looseRun b l .count) (λ k f. absurd (omega (arith, s .no-loose-part, f))))
       (then-from (rootRow b l) _ (judge-passes 7 0 (rootRules b l) (s .root))
       (then-from (allUsed 2 (beginOf b l (l .texts .count)) (l .units .count)) _ (used-all 2 (beginOf b l (l .texts .count)) (l .units .count) (s .no-loose-unit))

@@ -5,5 +5,4 @@ ghost use Rattle.formed.specs.Theorems.{Accepted-exactly-if-sound, Accepted-is
 pub fn verdict_stands()
     ensures sound { λ _. ⌜ Accepted-exactly-if-sound ⌝ }
     ensures formed { λ _. ⌜ Accepted-is-formed ⌝ }
-{
-}
+{}

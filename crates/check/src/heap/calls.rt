@@ -1,6 +1,9 @@
 // The calls of a heap.
 ghost use mathlib.Core.Path.{_≡_};
+ghost use Rattle.std.specs.declared.result.Result.the-variants.{Ok};
 ghost use Rattle.rules.specs.Verdicts.{verdict};
+ghost use Rattle.formed.specs.Formed.{Formed};
+ghost use Rattle.check.specs.Exact.{Exactly};
 ghost use Rattle.check.specs.Heaps.{model, nothing, Answers};
 use super::Heap;
 use dump::bytes::are_bytes;
@@ -99,8 +102,7 @@ impl<'a> Heap<'a> {
         }
     }
 
-    // Fills the heap with what a sound dump means; else says what is wrong, and the heap stays as it was.
-    pub fn check(&mut self, dump: &'a [u8]) -> Result<(), Refusal>
+    fn fill(&mut self, dump: &'a [u8]) -> Result<(), Refusal>
         ensures { λ r. ⌜ Answers (verdict (now (dump .entry))) r (now (self .entry)) (now (self .exit)) ⌝ }
     {
         let layout = walk(dump)?;
@@ -110,4 +112,19 @@ impl<'a> Heap<'a> {
         self.raw = raw;
         Ok(())
     }
+
+    // Fills the heap with what a sound dump means; else says what is wrong, and the heap stays as it was.
+    pub fn check(&mut self, dump: &'a [u8]) -> Result<(), Refusal>
+        ensures told { λ r. ⌜ Answers (verdict (now (dump .entry))) r (now (self .entry)) (now (self .exit)) ⌝ }
+        ensures exactly { λ r. ⌜ Exactly (now (dump .entry)) r (now (self .exit)) ⌝ }
+        ensures formed { λ _. ⌜ Formed (model (now (self .exit))) ⌝ }
+    {
+        self.fill(dump)
+    }
+
+    // Every heap is what an accepted dump means, and well formed. A call that does nothing, for callers' proofs.
+    pub fn stands(&self)
+        ensures accepted { λ _. ⌜ verdict (now (now (self .entry) .raw .dump)) ≡ Ok (model (now (self .entry))) ⌝ }
+        ensures formed { λ _. ⌜ Formed (model (now (self .entry))) ⌝ }
+    {}
 }

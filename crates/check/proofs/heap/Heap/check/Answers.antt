@@ -1,7 +1,5 @@
-use mathlib.Core.Path.{sym, ap}
-use Rattle.std.specs.Results.{isOk}
-use Rattle.dump.specs.Layouts.{numbersOf}
+use Rattle.check.proofs.Kept.{exactly, formed}
 use Rattle.check.proofs.heap.Heap.check.Needs as need
 
-pub ghost-self : need.ghost-self
-ghost-self c = (c .are-bytes .ensures, (ap numbersOf (sym (c .in-Continue-layout .ensures tt .is)), (ap isOk (sym (c .in-Continue-rows .ensures tt)), tt)))
+pub returns : need.returns
+returns c = record { told = c .fill .ensures; exactly = exactly _ _ _ _ (c .fill .ensures); formed = formed (c .fill .last .self) }
