@@ -1,9 +1,10 @@
 -- The rules of text rows and numeral rows.
 use mathlib.Core.Path.{_≡_}
 use mathlib.Core.List.{List, [], _∷_}
-use mathlib.Core.Bool.{Bool, true, cond, not, _||_, _&&_}
-use Prim.Native.Nat.{ℕ, _-_}
+use mathlib.Core.Bool.{Bool, true, false, cond, not, _||_, _&&_}
+use Prim.Native.Nat.{ℕ, _-_, _<_}
 use lib.Dec.{eqb, ltb, leb}
+use lib.ListN.{getD}
 use Rattle.std.specs.Results.{isOk}
 use Rattle.dump.specs.declared.layout.Layout.{Layout}
 use Rattle.dump.specs.declared.raw.Raw.{Raw}
@@ -11,7 +12,7 @@ use Rattle.dump.specs.Places.{firstOf, endOf, beginOf, textOf, numeralBits, num
 use Rattle.dump.specs.Raws.{bytes}
 use Rattle.dump.specs.Rules.{Verdict, Rule, rule, judge, each, anyBelow}
 use Rattle.numeral.specs.Order.{before}
-use Rattle.numeral.specs.Numerals.{isPair}
+use Rattle.numeral.specs.Numerals.{isPair, isBigInt}
 
 -- a text begins where the last ended, lies among the units, and comes after the last
 abbrev pub textRules : List ℕ → Layout → ℕ → List Rule
@@ -46,3 +47,7 @@ numeralRows b l = each (numeralRow b l) (l .numerals .count)
 -- the text rows of a dump keep their rules
 abbrev pub TextsSound : Raw → Type 0
 TextsSound x = isOk (textRows (bytes x) (x .layout)) ≡ true
+
+-- the marks tell which texts are those of a BigInt
+abbrev pub Marked : Raw → List Bool → Type 0
+Marked x marks = (t : ℕ) → t < x .layout .texts .count → getD marks t false ≡ isBigInt (textOf (bytes x) (x .layout) t)

@@ -4,30 +4,29 @@ ghost use mathlib.Core.Bool.{true};
 ghost use Rattle.dump.specs.Raws.{bytes};
 ghost use Rattle.shapes.specs.Cells.{placeOk};
 ghost use Rattle.rules.specs.Cells.{bigintOk, rootRow};
-ghost use Rattle.rules.specs.Texts.{TextsSound};
-use super::texts::run_of;
+ghost use Rattle.rules.specs.Texts.{Marked};
+use super::texts::Marks;
 use dump::raw::Raw;
 use dump::refusal::Refusal;
 use dump::row::Cell;
-use numeral::numerals::is_bigint;
 use shapes::cell::place_ok;
 use shapes::cell::tag_ok;
 
 // A BigInt has the text of one.
-pub fn bigint_ok(raw: &Raw<'_>, cell: Cell) -> bool
-    requires sound { ⌜ TextsSound (now raw) ⌝ }
+pub fn bigint_ok(raw: &Raw<'_>, marks: &Marks, cell: Cell) -> bool
+    requires marked { ⌜ Marked (now raw) (now marks) ⌝ }
     requires placed { ⌜ placeOk (now raw .layout .texts .count) (now raw .layout .objects .count) cell ≡ true ⌝ }
     ensures { λ r. ⌜ r ≡ bigintOk (bytes (now (raw .entry))) (now (raw .entry) .layout) cell ⌝ }
 {
     if cell.tag == 6 {
-        is_bigint(raw.dump, run_of(raw, cell.low as usize))
+        marks[cell.low as usize]
     } else {
         true
     }
 }
 
-pub fn root_row(raw: &Raw<'_>) -> Result<(), Refusal>
-    requires sound { ⌜ TextsSound (now raw) ⌝ }
+pub fn root_row(raw: &Raw<'_>, marks: &Marks) -> Result<(), Refusal>
+    requires marked { ⌜ Marked (now raw) (now marks) ⌝ }
     ensures { λ r. ⌜ r ≡ rootRow (bytes (now (raw .entry))) (now (raw .entry) .layout) ⌝ }
 {
     let root = raw.root();
@@ -45,7 +44,7 @@ pub fn root_row(raw: &Raw<'_>) -> Result<(), Refusal>
             record: 0,
         });
     }
-    if !bigint_ok(raw, root) {
+    if !bigint_ok(raw, marks, root) {
         return Err(Refusal {
             number: 6,
             section: 7,

@@ -6,12 +6,11 @@ ghost use Rattle.dump.specs.Raws.{bytes};
 ghost use Rattle.dump.specs.Places.{rowAt};
 ghost use Rattle.shapes.specs.Rows.{numbersOk, buffersOk};
 ghost use Rattle.rules.specs.Objects.{bigintRow, partsBelow, bytesBelow, objectRow, objectRows, ObjectsSound};
-ghost use Rattle.rules.specs.Texts.{TextsSound};
-use super::texts::run_of;
+ghost use Rattle.rules.specs.Texts.{Marked};
+use super::texts::Marks;
 use dump::raw::Raw;
 use dump::refusal::Refusal;
 use dump::row::Row;
-use numeral::numerals::is_bigint;
 use shapes::object::buffers_ok;
 use shapes::object::bytes_in;
 use shapes::object::bytes_ok;
@@ -33,13 +32,13 @@ fn refusal(number: u8, i: usize) -> Refusal
 }
 
 // A BigInt object has the text of one.
-fn bigint_row(raw: &Raw<'_>, row: Row) -> bool
-    requires sound { ⌜ TextsSound (now raw) ⌝ }
+fn bigint_row(raw: &Raw<'_>, marks: &Marks, row: Row) -> bool
+    requires marked { ⌜ Marked (now raw) (now marks) ⌝ }
     requires placed { ⌜ numbersOk (now raw .layout .texts .count) (now raw .layout .objects .count) row ≡ true ⌝ }
     ensures { λ r. ⌜ r ≡ bigintRow (bytes (now (raw .entry))) (now (raw .entry) .layout) row ⌝ }
 {
     if row.kind == 2 {
-        is_bigint(raw.dump, run_of(raw, row.a as usize))
+        marks[row.a as usize]
     } else {
         true
     }
@@ -59,9 +58,15 @@ fn buffer_row(raw: &Raw<'_>, row: Row) -> bool
 }
 
 // The row `i`, where the rows before it have `parts` parts and `octets` bytes.
-fn object_row(raw: &Raw<'_>, i: usize, parts: usize, octets: usize) -> Result<(), Refusal>
+fn object_row(
+    raw: &Raw<'_>,
+    marks: &Marks,
+    i: usize,
+    parts: usize,
+    octets: usize,
+) -> Result<(), Refusal>
     requires here { ⌜ i < now raw .layout .objects .count ⌝ }
-    requires sound { ⌜ TextsSound (now raw) ⌝ }
+    requires marked { ⌜ Marked (now raw) (now marks) ⌝ }
     requires parts { ⌜ parts ≡ partsBelow (bytes (now raw)) (now raw .layout) i ⌝ ∗ ⌜ parts ≤ now raw .layout .parts .count ⌝ }
     requires octets { ⌜ octets ≡ bytesBelow (bytes (now raw)) (now raw .layout) i ⌝ ∗ ⌜ octets ≤ now raw .layout .octets .count ⌝ }
     ensures { λ r. ⌜ r ≡ objectRow (bytes (now (raw .entry))) (now (raw .entry) .layout) i ⌝ }
@@ -77,7 +82,7 @@ fn object_row(raw: &Raw<'_>, i: usize, parts: usize, octets: usize) -> Result<()
     {
         return Err(refusal(5, i));
     }
-    if !bigint_row(raw, row) {
+    if !bigint_row(raw, marks, row) {
         return Err(refusal(6, i));
     }
     if !limits_ok(row) {
@@ -89,14 +94,14 @@ fn object_row(raw: &Raw<'_>, i: usize, parts: usize, octets: usize) -> Result<()
     Ok(())
 }
 
-pub fn object_rows(raw: &Raw<'_>) -> Result<(), Refusal>
-    requires sound { ⌜ TextsSound (now raw) ⌝ }
+pub fn object_rows(raw: &Raw<'_>, marks: &Marks) -> Result<(), Refusal>
+    requires marked { ⌜ Marked (now raw) (now marks) ⌝ }
     ensures { λ r. ⌜ r ≡ objectRows (bytes (now (raw .entry))) (now (raw .entry) .layout) ⌝ }
 {
     let mut parts = 0;
     let mut octets = 0;
     for i in 0..raw.layout.objects.count {
-        object_row(raw, i, parts, octets)?;
+        object_row(raw, marks, i, parts, octets)?;
         let row = raw.row(i);
         parts += parts_in(row);
         octets += bytes_in(row);

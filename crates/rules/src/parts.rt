@@ -6,12 +6,13 @@ ghost use Rattle.dump.specs.Raws.{bytes};
 ghost use Rattle.dump.specs.Places.{rowAt, keyAt};
 ghost use Rattle.dump.specs.Rules.{each, anyBelow};
 ghost use Rattle.shapes.specs.Cells.{sameZero};
-ghost use Rattle.rules.specs.Texts.{TextsSound};
+ghost use Rattle.rules.specs.Texts.{TextsSound, Marked};
 ghost use Rattle.rules.specs.Objects.{ObjectsSound, partsBelow};
 ghost use Rattle.rules.specs.Parts.{firstRun, secondRun, mayBeHole, named as namedBy, reserved as isReserved, indexOk, nameOk, propertyOk, keyOk, identity as identityOf, apart as isApart, memberOk, partRow, partRun, objectParts, looseRun};
 use super::cells::bigint_ok;
 use super::role::PartRun;
 use super::role::Role;
+use super::texts::Marks;
 use super::texts::run_of;
 use dump::raw::Raw;
 use dump::refusal::Refusal;
@@ -248,9 +249,10 @@ fn refusal(number: u8, p: usize) -> Refusal
 }
 
 // The part `k` of a run.
-fn part_row(raw: &Raw<'_>, run: PartRun, k: usize) -> Result<(), Refusal>
+fn part_row(raw: &Raw<'_>, marks: &Marks, run: PartRun, k: usize) -> Result<(), Refusal>
     requires here { ⌜ run .first + k < now raw .layout .parts .count ⌝ }
     requires sound { ⌜ TextsSound (now raw) ⌝ }
+    requires marked { ⌜ Marked (now raw) (now marks) ⌝ }
     ensures { λ r. ⌜ r ≡ partRow (bytes (now (raw .entry))) (now (raw .entry) .layout) run k ⌝ }
 {
     let p = run.first + k;
@@ -264,7 +266,7 @@ fn part_row(raw: &Raw<'_>, run: PartRun, k: usize) -> Result<(), Refusal>
     if !place_ok(key, texts, objects) || !place_ok(value, texts, objects) {
         return Err(refusal(5, p));
     }
-    if !bigint_ok(raw, key) || !bigint_ok(raw, value) {
+    if !bigint_ok(raw, marks, key) || !bigint_ok(raw, marks, value) {
         return Err(refusal(6, p));
     }
     if !key_ok(raw, run.role, run.first, k) {
@@ -276,41 +278,45 @@ fn part_row(raw: &Raw<'_>, run: PartRun, k: usize) -> Result<(), Refusal>
     Ok(())
 }
 
-fn part_run(raw: &Raw<'_>, run: PartRun) -> Result<(), Refusal>
+fn part_run(raw: &Raw<'_>, marks: &Marks, run: PartRun) -> Result<(), Refusal>
     requires here { ⌜ run .first + run .count ≤ now raw .layout .parts .count ⌝ }
     requires sound { ⌜ TextsSound (now raw) ⌝ }
+    requires marked { ⌜ Marked (now raw) (now marks) ⌝ }
     ensures { λ r. ⌜ r ≡ partRun (bytes (now (raw .entry))) (now (raw .entry) .layout) run ⌝ }
 {
     for k in 0..run.count {
-        part_row(raw, run, k)?;
+        part_row(raw, marks, run, k)?;
     }
     Ok(())
 }
 
-fn object_parts(raw: &Raw<'_>, i: usize) -> Result<(), Refusal>
+fn object_parts(raw: &Raw<'_>, marks: &Marks, i: usize) -> Result<(), Refusal>
     requires here { ⌜ i < now raw .layout .objects .count ⌝ }
     requires sound { ⌜ TextsSound (now raw) ⌝ ∗ ⌜ ObjectsSound (now raw) ⌝ }
+    requires marked { ⌜ Marked (now raw) (now marks) ⌝ }
     ensures { λ r. ⌜ r ≡ objectParts (bytes (now (raw .entry))) (now (raw .entry) .layout) i ⌝ }
 {
     let row = raw.row(i);
-    part_run(raw, first_run(row))?;
-    part_run(raw, second_run(row))
+    part_run(raw, marks, first_run(row))?;
+    part_run(raw, marks, second_run(row))
 }
 
-pub fn part_rows(raw: &Raw<'_>) -> Result<(), Refusal>
+pub fn part_rows(raw: &Raw<'_>, marks: &Marks) -> Result<(), Refusal>
     requires sound { ⌜ TextsSound (now raw) ⌝ ∗ ⌜ ObjectsSound (now raw) ⌝ }
+    requires marked { ⌜ Marked (now raw) (now marks) ⌝ }
     ensures { λ r. ⌜ r ≡ each (objectParts (bytes (now (raw .entry))) (now (raw .entry) .layout)) (now (raw .entry) .layout .objects .count) ⌝ }
 {
     for i in 0..raw.layout.objects.count {
-        object_parts(raw, i)?;
+        object_parts(raw, marks, i)?;
     }
     Ok(())
 }
 
 // The parts behind the last run, which begin at `used`.
-pub fn loose_parts(raw: &Raw<'_>, used: usize) -> Result<(), Refusal>
+pub fn loose_parts(raw: &Raw<'_>, marks: &Marks, used: usize) -> Result<(), Refusal>
     requires used { ⌜ used ≡ partsBelow (bytes (now raw)) (now raw .layout) (now raw .layout .objects .count) ⌝ ∗ ⌜ used ≤ now raw .layout .parts .count ⌝ }
     requires sound { ⌜ TextsSound (now raw) ⌝ }
+    requires marked { ⌜ Marked (now raw) (now marks) ⌝ }
     ensures { λ r. ⌜ r ≡ partRun (bytes (now (raw .entry))) (now (raw .entry) .layout) (looseRun (bytes (now (raw .entry))) (now (raw .entry) .layout)) ⌝ }
 {
     let loose = PartRun {
@@ -318,5 +324,5 @@ pub fn loose_parts(raw: &Raw<'_>, used: usize) -> Result<(), Refusal>
         first: used,
         count: raw.layout.parts.count - used,
     };
-    part_run(raw, loose)
+    part_run(raw, marks, loose)
 }

@@ -9,6 +9,7 @@ use super::objects::all_parts;
 use super::objects::object_rows;
 use super::parts::loose_parts;
 use super::parts::part_rows;
+use super::texts::mark_bigints;
 use super::texts::numeral_rows;
 use super::texts::text_rows;
 use dump::raw::Raw;
@@ -34,11 +35,13 @@ pub fn rows(raw: &Raw<'_>) -> Result<(), Refusal>
 {
     text_rows(raw)?;
     numeral_rows(raw)?;
-    object_rows(raw)?;
-    part_rows(raw)?;
+    let mut marks = [false; 8192];
+    mark_bigints(raw, &mut marks);
+    object_rows(raw, &marks)?;
+    part_rows(raw, &marks)?;
     let parts = all_parts(raw);
-    loose_parts(raw, parts)?;
-    root_row(raw)?;
+    loose_parts(raw, &marks, parts)?;
+    root_row(raw, &marks)?;
     let layout = raw.layout;
     all_used(2, raw.begin(layout.texts.count), layout.units.count)?;
     all_used(4, all_octets(raw), layout.octets.count)?;

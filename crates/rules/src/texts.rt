@@ -5,10 +5,11 @@ ghost use lib.ListN.{length};
 ghost use Rattle.dump.specs.Rules.{anyBelow};
 ghost use Rattle.dump.specs.Raws.{bytes};
 ghost use Rattle.dump.specs.Places.{textRun, numeralText};
-ghost use Rattle.rules.specs.Texts.{textRow, textRows, sameNumeral, numeralRow, numeralRows, TextsSound};
+ghost use Rattle.rules.specs.Texts.{textRow, textRows, sameNumeral, numeralRow, numeralRows, TextsSound, Marked};
 use dump::raw::Raw;
 use dump::refusal::Refusal;
 use dump::row::Run;
+use numeral::numerals::is_bigint;
 use numeral::numerals::is_pair;
 use numeral::texts::before;
 
@@ -104,4 +105,16 @@ pub fn numeral_rows(raw: &Raw<'_>) -> Result<(), Refusal>
         numeral_row(raw, i)?;
     }
     Ok(())
+}
+
+// For each text whether it is that of a BigInt. Many values may share a long text, which is read only here.
+pub type Marks = [bool; 8192];
+
+pub fn mark_bigints(raw: &Raw<'_>, marks: &mut Marks)
+    requires sound { ⌜ TextsSound (now raw) ⌝ }
+    ensures { λ _. ⌜ Marked (now (raw .entry)) (now (marks .exit)) ⌝ }
+{
+    for t in 0..raw.layout.texts.count {
+        marks[t] = is_bigint(raw.dump, run_of(raw, t));
+    }
 }

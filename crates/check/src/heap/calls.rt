@@ -15,48 +15,8 @@ use dump::walk::walk;
 use rules::rows::rows;
 
 // The dump with nothing in its sections and the root undefined.
-static EMPTY: [u8; 40] = [
-    0,
-    0,
-    0,
-    0,
-    0,
-    0,
-    0,
-    0,
-    0,
-    0,
-    0,
-    0,
-    0,
-    0,
-    0,
-    0,
-    0,
-    0,
-    0,
-    0,
-    0,
-    0,
-    0,
-    0,
-    1,
-    0,
-    0,
-    0,
-    0,
-    0,
-    0,
-    0,
-    0,
-    0,
-    0,
-    0,
-    0,
-    0,
-    0,
-    0,
-];
+const EMPTY: &[u8; 40] =
+    b"\0\0\0\0\0\0\0\0\0\0\0\0\0\0\0\0\0\0\0\0\0\0\0\0\x01\0\0\0\0\0\0\0\0\0\0\0\0\0\0\0";
 
 impl<'a> Heap<'a> {
     // The heap with nothing in it, and the root undefined.
@@ -96,7 +56,7 @@ impl<'a> Heap<'a> {
         };
         Heap {
             raw: Raw {
-                dump: &EMPTY,
+                dump: EMPTY,
                 layout,
             },
         }

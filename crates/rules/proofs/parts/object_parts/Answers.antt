@@ -18,6 +18,7 @@ part-run-requires c κs =
     record {
       here = subst (λ (r : PartRun). r .first + r .count ≤ l .parts .count) (sym (c .first-run .ensures ∙ ap firstRun (c .row-row .ensures))) fits;
       sound = c .pre .sound .0;
+      marked = c .pre .marked;
     }
 
 pub part-run-requires-2 : need.part-run-requires-2
@@ -28,4 +29,5 @@ part-run-requires-2 c κs =
     record {
       here = subst (λ (r : PartRun). r .first + r .count ≤ l .parts .count) (sym (c .second-run .ensures ∙ ap secondRun (c .row-row .ensures))) fits;
       sound = c .pre .sound .0;
+      marked = c .pre .marked;
     }
