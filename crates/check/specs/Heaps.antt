@@ -1,6 +1,7 @@
 -- What a heap means, and what `check` answers.
 use mathlib.Core.Path.{_≡_}
 use mathlib.Core.List.{List, []}
+use Prim.Native.Nat.{ℕ}
 use Rattle.std.specs.declared.result.Result.{Result}
 use Rattle.std.specs.declared.result.Result.the-variants.{Ok, Err}
 use Rattle.dump.specs.declared.refusal.Refusal.{Refusal}
@@ -8,8 +9,12 @@ use Rattle.dump.specs.Heaps.{Heap as Meant, undefined}
 use Rattle.dump.specs.Meaning.{heapOf}
 use Rattle.check.specs.declared.heap.Heap.{Heap}
 
+-- the bytes that a heap reads
+abbrev pub dumpOf : Heap → List ℕ
+dumpOf h = h .raw .dump .now
+
 abbrev pub model : Heap → Meant
-model h = heapOf (h .raw .dump .now) (h .raw .layout)
+model h = heapOf (dumpOf h) (h .raw .layout)
 
 abbrev pub nothing : Meant
 nothing = record { objects = []; numerals = []; root = undefined }

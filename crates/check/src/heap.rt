@@ -9,6 +9,7 @@ ghost use Rattle.rules.specs.Verdicts.{rowsOf};
 use dump::raw::Raw;
 
 mod calls;
+mod reads;
 
 #[derive(Drop)]
 pub struct Heap<'a> {

@@ -4,8 +4,9 @@ ghost use Prim.Native.Nat.{_<_};
 ghost use lib.ListN.{length};
 ghost use Rattle.std.specs.declared.result.Result.the-variants.{Err};
 use check::heap::Heap;
-use check::heap::Root;
 use dump::refusal::Refusal;
+use reads::object::Kind;
+use reads::value::Value;
 use std::fmt;
 use std::io;
 use std::io::Read;
@@ -21,12 +22,12 @@ const TOO_LONG: Refusal = Refusal {
 
 // What a sound dump holds.
 #[derive(Clone, Copy)]
-pub struct Summary {
+struct Summary {
     texts: usize,
     numerals: usize,
     objects: usize,
     parts: usize,
-    root: Root,
+    root: &'static str,
 }
 
 impl fmt::Display for Summary as SummaryDisplay {
@@ -34,44 +35,40 @@ impl fmt::Display for Summary as SummaryDisplay {
         write!(
             f,
             "{} {} {} {} {}",
-            self.texts,
-            self.numerals,
-            self.objects,
-            self.parts,
-            word_of(self.root),
+            self.texts, self.numerals, self.objects, self.parts, self.root,
         )
     }
 }
 
 // What the root is: the sort of a plain value, in lower case, or the kind of an object.
-fn word_of(root: Root) -> &'static str {
-    match root {
-        Root::Undefined => "undefined",
-        Root::Null => "null",
-        Root::Boolean => "boolean",
-        Root::Number => "number",
-        Root::BigInt => "bigint",
-        Root::Text => "text",
-        Root::Object(kind) => kind_word(kind),
+fn root_word(heap: &Heap<'_>) -> &'static str {
+    match heap.root() {
+        Value::Undefined | Value::Hole => "undefined",
+        Value::Null => "null",
+        Value::Boolean(_) => "boolean",
+        Value::Whole(_) | Value::Double(_) => "number",
+        Value::BigInt(_) => "bigint",
+        Value::Text(_) => "text",
+        Value::Object(o) => kind_word(heap.kind(o)),
     }
 }
 
-fn kind_word(kind: u8) -> &'static str {
+fn kind_word(kind: Kind) -> &'static str {
     match kind {
-        0 => "Boolean",
-        1 => "Number",
-        2 => "BigInt",
-        3 => "String",
-        4 => "RegExp",
-        5 => "Date",
-        6 => "Object",
-        7 => "SparseArray",
-        8 => "DenseArray",
-        9 => "Map",
-        10 => "Set",
-        11 => "ArrayBuffer",
-        12 => "View",
-        _ => "Error",
+        Kind::BooleanObject(_) => "Boolean",
+        Kind::NumberObject(_) => "Number",
+        Kind::BigIntObject(_) => "BigInt",
+        Kind::StringObject(_) => "String",
+        Kind::RegExp { .. } => "RegExp",
+        Kind::Date(_) => "Date",
+        Kind::Plain => "Object",
+        Kind::Sparse { .. } => "SparseArray",
+        Kind::Dense { .. } => "DenseArray",
+        Kind::Map => "Map",
+        Kind::Set => "Set",
+        Kind::Buffer { .. } => "ArrayBuffer",
+        Kind::View { .. } => "View",
+        Kind::Error { .. } => "Error",
     }
 }
 
@@ -88,7 +85,7 @@ fn judge<'a>(dump: &'a [u8]) -> Result<Summary, Refusal>
         numerals: heap.numerals(),
         objects: heap.objects(),
         parts: heap.parts(),
-        root: heap.root(),
+        root: root_word(&heap),
     })
 }
 

@@ -1,5 +1,5 @@
 -- The heap that a dump means: objects by number, each a kind with plain content and a list of parts; numerals; a root.
-use mathlib.Core.List.{List}
+use mathlib.Core.List.{List, []}
 use mathlib.Core.Bool.{Bool}
 use Prim.Native.Nat.{ℕ}
 use lib.IntN.{ℤ}
@@ -68,3 +68,13 @@ pub record Heap : Type 0 where
   pub objects : List Object
   pub numerals : List Numeral
   pub root : Value
+
+-- What stands for a row past the last.
+abbrev pub nobody : Object
+nobody = record { kind = plain; parts = [] }
+
+abbrev pub no-part : Part
+no-part = below 0
+
+abbrev pub no-numeral : Numeral
+no-numeral = record { bits = 0; digits = [] }

@@ -21,7 +21,7 @@ use Rattle.std.proofs.shelf.Ways.{tells}
 use Rattle.dump.specs.declared.layout.Layout.{Layout}
 use Rattle.dump.specs.declared.row.Row.{Row}
 use Rattle.dump.specs.Bytes.{word, bytesAt}
-use Rattle.dump.specs.Heaps.{Kind, buffer, Part, below, Object, Heap}
+use Rattle.dump.specs.Heaps.{Kind, buffer, Part, below, Object, nobody, Heap}
 use Rattle.dump.specs.Kinds.{viewKind, width}
 use Rattle.dump.specs.Meaning.{joined, signed64, kindOf, partsOf, objectOf, heapOf, maybeText, elementAt, propertyAt, causeAt}
 use Rattle.dump.specs.Places.{rowAt, textOf}
@@ -31,7 +31,7 @@ use Rattle.shapes.specs.Rows.{wordsOk, numbersOk, limitsOk, buffersOk, viewOk, 
 use Rattle.rules.specs.Objects.{bigintRow}
 use Rattle.rules.specs.Parts.{firstRun, secondRun, partRules}
 use Rattle.formed.specs.Sound.{Sound}
-use Rattle.formed.specs.Formed.{KindFormed, PartsFormed, ViewFormed, TimeFits, MaybeUnits, MaximumFits, kindAt, nobody, Properties, ElementFormed}
+use Rattle.formed.specs.Formed.{KindFormed, PartsFormed, ViewFormed, TimeFits, MaybeUnits, MaximumFits, kindAt, Properties, ElementFormed}
 use Rattle.formed.proofs.Parts.{properties, elements, causes, entries, members}
 use Rattle.formed.proofs.Values.{upto9}
 use Rattle.formed.proofs.Words.{word-below, units-below, bytes-below}

@@ -15,7 +15,7 @@ use Rattle.std.specs.declared.option.Option.{Option}
 use Rattle.std.specs.declared.option.Option.the-variants.{Some, None}
 use Rattle.dump.specs.declared.kinds.ViewKind.{ViewKind}
 use Rattle.dump.specs.Kinds.{width}
-use Rattle.dump.specs.Heaps.{Text, Value, undefined, null, hole, boolean, whole, double, bigint, text, object, Key, index, name, Kind, boolean-object, number-object, bigint-object, string-object, regexp, date, plain, sparse, dense, map, set, buffer, view, error, Part, property, element, entry, member, below, cause, Object, Numeral, Heap}
+use Rattle.dump.specs.Heaps.{Text, Value, undefined, null, hole, boolean, whole, double, bigint, text, object, Key, index, name, Kind, boolean-object, number-object, bigint-object, string-object, regexp, date, plain, sparse, dense, map, set, buffer, view, error, Part, property, element, entry, member, below, cause, Object, nobody, Numeral, Heap}
 use Rattle.numeral.specs.Digits.{indexOf}
 use Rattle.numeral.specs.Numerals.{isPair, isBigInt}
 use Rattle.shapes.specs.Rows.{flagsOk}
@@ -108,9 +108,6 @@ MemberApart p q = (v v′ : Value) → p ≡ member v → q ≡ member v′ → 
 
 abbrev pub Properties : ℕ → ℕ → Bool → List Part → Type 0
 Properties n limit array ps = All (PropertyFormed n limit array) ps × Pairwise PropertyBefore ps
-
-abbrev pub nobody : Object
-nobody = record { kind = plain; parts = [] }
 
 abbrev pub kindAt : Heap → ℕ → Kind
 kindAt h o = getD (h .objects) o nobody .kind

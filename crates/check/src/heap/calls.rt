@@ -4,7 +4,7 @@ ghost use Rattle.std.specs.declared.result.Result.the-variants.{Ok};
 ghost use Rattle.rules.specs.Verdicts.{verdict};
 ghost use Rattle.formed.specs.Formed.{Formed};
 ghost use Rattle.check.specs.Exact.{Exactly};
-ghost use Rattle.check.specs.Heaps.{model, nothing, Answers};
+ghost use Rattle.check.specs.Heaps.{dumpOf, model, nothing, Answers};
 use super::Heap;
 use dump::bytes::are_bytes;
 use dump::layout::Layout;
@@ -84,7 +84,7 @@ impl<'a> Heap<'a> {
 
     // Every heap is what an accepted dump means, and well formed. A call that does nothing, for callers' proofs.
     pub fn stands(&self)
-        ensures accepted { λ _. ⌜ verdict (now (now (self .entry) .raw .dump)) ≡ Ok (model (now (self .entry))) ⌝ }
+        ensures accepted { λ _. ⌜ verdict (dumpOf (now (self .entry))) ≡ Ok (model (now (self .entry))) ⌝ }
         ensures formed { λ _. ⌜ Formed (model (now (self .entry))) ⌝ }
     {}
 }
