@@ -1,8 +1,5 @@
 // Says in one line whether the dump on standard input is sound, and what it holds.
-ghost use mathlib.Core.Path.{_≡_};
-ghost use Prim.Native.Nat.{_<_};
-ghost use lib.ListN.{length};
-ghost use Rattle.std.specs.declared.result.Result.the-variants.{Err};
+ghost use Rattle.counter.specs.Judged.{Judged};
 use check::heap::Heap;
 use dump::refusal::Refusal;
 use reads::object::Kind;
@@ -73,7 +70,7 @@ fn kind_word(kind: Kind) -> &'static str {
 }
 
 fn judge<'a>(dump: &'a [u8]) -> Result<Summary, Refusal>
-    ensures { λ r. ⌜ (65536 < length (now (dump .entry)) → r ≡ Err (record { number = 2; section = 0; «record» = 0 })) ⌝ }
+    ensures { λ r. ⌜ Judged (now (dump .entry)) r ⌝ }
 {
     if dump.len() > LIMIT {
         return Err(TOO_LONG);
