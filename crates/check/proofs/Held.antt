@@ -11,10 +11,10 @@ use Rattle.dump.specs.Places.{rowAt}
 use Rattle.reads.specs.Parts.{partCount}
 use Rattle.reads.proofs.Listed.{length-parts}
 use Rattle.reads.proofs.Sound.{Sections, sections, RowPlaced, row-placed, PartPlaced, part-placed}
-use Rattle.check.specs.declared.heap.Heap.{Heap}
+use Rattle.check.specs.declared.checked.Checked.{Checked}
 use Rattle.check.specs.Heaps.{model, dumpOf}
 
-module _ (h : Heap) where
+module _ (h : Checked) where
   pub passed : Sections (dumpOf h) (h .raw .layout)
   passed = sections (dumpOf h) (h .raw .layout) (h .sound)
 

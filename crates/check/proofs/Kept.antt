@@ -1,4 +1,4 @@
--- Every heap is what an accepted dump means, and well formed.
+-- What is checked is what an accepted dump means, and well formed.
 use mathlib.Core.Path.{_≡_, refl, sym, ap, _∙_}
 use mathlib.Core.List.{List, [], _∷_}
 use mathlib.Core.Bool.{true}
@@ -17,6 +17,7 @@ use Rattle.formed.specs.Formed.{Formed}
 use Rattle.formed.specs.Theorems.{Means}
 use Rattle.formed.proofs.Heaps as heaps
 use Rattle.formed.proofs.Verdict as verdicts
+use Rattle.check.specs.declared.checked.Checked.{Checked}
 use Rattle.check.specs.declared.heap.Heap.{Heap}
 use Rattle.check.specs.Heaps.{model, Answers}
 use Rattle.check.specs.Exact.{Exactly}
@@ -48,13 +49,13 @@ same-layout (Ok k) l h =
       root = record { start = r i; count = s i };
     })
 
-pub accepted : (h : Heap) → verdict (h .raw .dump .now) ≡ Ok (model h)
+pub accepted : (h : Checked) → verdict (h .raw .dump .now) ≡ Ok (model h)
 accepted h =
     let b = h .raw .dump .now in
     let l = h .raw .layout in
     verdicts.every b (model h) .1 (l, same-layout (layoutOf b) l (h .laid), verdicts.sound b l (h .sound), refl)
 
-pub formed : (h : Heap) → Formed (model h)
+pub formed : (h : Checked) → Formed (model h)
 formed h = heaps.every (h .raw .dump .now) (model h) (h .bytes) (accepted h)
 
 -- what `check` tells, in the words of the rules
@@ -63,7 +64,7 @@ exactly b r h h′ told = go (verdict b) refl told
   where
     go : (v : Result Meant Refusal) → verdict b ≡ v → Answers v r h h′ → Exactly b r h′
     go (Ok m) e a = (
-      λ _. verdicts.every b (model h′) .0 (e ∙ ap Ok (sym (a .1))),
+      λ _. verdicts.every b (model (h′ .checked)) .0 (e ∙ ap Ok (sym (a .1))),
       λ n means. (ap isOk (a .0), a .1 ∙ (let x : Ok m ≡ Ok n = sym e ∙ verdicts.every b n .1 means in let y : m ≡ n = cc in y)),
     )
     go (Err x) e a = (

@@ -13,4 +13,4 @@ use Rattle.check.specs.Heaps.{model}
 
 -- accepted exactly if every rule holds at every row, and the heap is then what the dump means
 abbrev pub Exactly : List ℕ → Result (Unit {0}) Refusal → Heap → Type 0
-Exactly b r h = (isOk r ≡ true → Means b (model h)) × ((m : Meant) → Means b m → (isOk r ≡ true) × (model h ≡ m))
+Exactly b r h = (isOk r ≡ true → Means b (model (h .checked))) × ((m : Meant) → Means b m → (isOk r ≡ true) × (model (h .checked) ≡ m))

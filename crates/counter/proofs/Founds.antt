@@ -21,7 +21,7 @@ found-err : (v : Result Meant Refusal) (r : Result Summary Refusal) (e : Refusal
 found-err (Ok m) r e h h′ a q = absurd (let x = a .0 in let z : _≡_ {A = ℕ} 0 1 = cc in omega arith)
 found-err (Err x) r e h h′ a q = let y = a .0 in let z : e ≡ x = cc in q ∙ ap Err z
 
-found-ok : (v : Result Meant Refusal) (s : Summary) (h h′ : Heap) → Answers v (Ok tt) h h′ → s .objects ≡ length (model h′ .objects) → s .numerals ≡ length (model h′ .numerals) → Found v (Ok s)
+found-ok : (v : Result Meant Refusal) (s : Summary) (h h′ : Heap) → Answers v (Ok tt) h h′ → s .objects ≡ length (model (h′ .checked) .objects) → s .numerals ≡ length (model (h′ .checked) .numerals) → Found v (Ok s)
 found-ok (Ok m) s h h′ a p q = (p ∙ ap (λ (x : Meant). length (x .objects)) (a .1), q ∙ ap (λ (x : Meant). length (x .numerals)) (a .1))
 found-ok (Err x) s h h′ a p q = absurd (let y = a .0 in let z : _≡_ {A = ℕ} 0 1 = cc in omega arith)
 
@@ -32,5 +32,5 @@ module _ (b : List ℕ) (small : length b ≤ 65536) (h h′ : Heap) where
   pub refused : (r : Result Summary Refusal) (e : Refusal) → Answers (verdict b) (Err e) h h′ → r ≡ Err e → Judged b r
   refused r e a q = limited b r small (found-err (verdict b) r e h h′ a q)
 
-  pub accepted : (s : Summary) → Answers (verdict b) (Ok tt) h h′ → s .objects ≡ length (model h′ .objects) → s .numerals ≡ length (model h′ .numerals) → Judged b (Ok s)
+  pub accepted : (s : Summary) → Answers (verdict b) (Ok tt) h h′ → s .objects ≡ length (model (h′ .checked) .objects) → s .numerals ≡ length (model (h′ .checked) .numerals) → Judged b (Ok s)
   accepted s a p q = limited b (Ok s) small (found-ok (verdict b) s h h′ a p q)

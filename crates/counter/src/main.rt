@@ -1,5 +1,6 @@
 // Says in one line whether the dump on standard input is sound, and what it holds.
 ghost use Rattle.counter.specs.Judged.{Judged};
+use check::checked::Checked;
 use check::heap::Heap;
 use dump::refusal::Refusal;
 use reads::object::Kind;
@@ -38,15 +39,15 @@ impl fmt::Display for Summary as SummaryDisplay {
 }
 
 // What the root is: the sort of a plain value, in lower case, or the kind of an object.
-fn root_word(heap: &Heap<'_>) -> &'static str {
-    match heap.root() {
+fn root_word(found: &Checked<'_>) -> &'static str {
+    match found.root() {
         Value::Undefined | Value::Hole => "undefined",
         Value::Null => "null",
         Value::Boolean(_) => "boolean",
         Value::Whole(_) | Value::Double(_) => "number",
         Value::BigInt(_) => "bigint",
         Value::Text(_) => "text",
-        Value::Object(o) => kind_word(heap.kind(o)),
+        Value::Object(o) => kind_word(found.kind(o)),
     }
 }
 
@@ -77,12 +78,13 @@ fn judge<'a>(dump: &'a [u8]) -> Result<Summary, Refusal>
     }
     let mut heap: Heap<'a> = Heap::new();
     heap.check(dump)?;
+    let found = heap.checked();
     Ok(Summary {
-        texts: heap.texts(),
-        numerals: heap.numerals(),
-        objects: heap.objects(),
-        parts: heap.parts(),
-        root: root_word(&heap),
+        texts: found.texts(),
+        numerals: found.numerals(),
+        objects: found.objects(),
+        parts: found.parts(),
+        root: root_word(&found),
     })
 }
 

@@ -10,7 +10,10 @@ use std::time::Instant;
 fn rows<'a>(dump: &'a [u8]) -> Option<usize> {
     let mut heap: Heap<'a> = Heap::new();
     match heap.check(dump) {
-        Ok(()) => heap.texts().checked_add(heap.parts()),
+        Ok(()) => {
+            let found = heap.checked();
+            found.texts().checked_add(found.parts())
+        }
         Err(_) => None,
     }
 }

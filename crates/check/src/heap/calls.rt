@@ -1,10 +1,10 @@
 // The calls of a heap.
 ghost use mathlib.Core.Path.{_≡_};
-ghost use Rattle.std.specs.declared.result.Result.the-variants.{Ok};
 ghost use Rattle.rules.specs.Verdicts.{verdict};
 ghost use Rattle.formed.specs.Formed.{Formed};
 ghost use Rattle.check.specs.Exact.{Exactly};
-ghost use Rattle.check.specs.Heaps.{dumpOf, model, nothing, Answers};
+ghost use Rattle.check.specs.Heaps.{model, nothing, Answers};
+use super::super::checked::Checked;
 use super::Heap;
 use dump::bytes::are_bytes;
 use dump::layout::Layout;
@@ -21,7 +21,7 @@ const EMPTY: &[u8; 40] =
 impl<'a> Heap<'a> {
     // The heap with nothing in it, and the root undefined.
     pub fn new() -> Heap<'a>
-        ensures { λ r. ⌜ model r ≡ nothing ⌝ }
+        ensures { λ r. ⌜ model (r .checked) ≡ nothing ⌝ }
     {
         let texts = Section { start: 4, count: 0 };
         let units = Section { start: 8, count: 0 };
@@ -54,11 +54,12 @@ impl<'a> Heap<'a> {
             parts,
             root,
         };
+        let raw = Raw {
+            dump: EMPTY,
+            layout,
+        };
         Heap {
-            raw: Raw {
-                dump: EMPTY,
-                layout,
-            },
+            checked: Checked { raw },
         }
     }
 
@@ -69,7 +70,7 @@ impl<'a> Heap<'a> {
         let raw = Raw { dump, layout };
         rows(&raw)?;
         are_bytes(dump);
-        self.raw = raw;
+        self.checked = Checked { raw };
         Ok(())
     }
 
@@ -77,14 +78,15 @@ impl<'a> Heap<'a> {
     pub fn check(&mut self, dump: &'a [u8]) -> Result<(), Refusal>
         ensures told { λ r. ⌜ Answers (verdict (now (dump .entry))) r (now (self .entry)) (now (self .exit)) ⌝ }
         ensures exactly { λ r. ⌜ Exactly (now (dump .entry)) r (now (self .exit)) ⌝ }
-        ensures formed { λ _. ⌜ Formed (model (now (self .exit))) ⌝ }
+        ensures formed { λ _. ⌜ Formed (model (now (self .exit) .checked)) ⌝ }
     {
         self.fill(dump)
     }
 
-    // Every heap is what an accepted dump means, and well formed. A call that does nothing, for callers' proofs.
-    pub fn stands(&self)
-        ensures accepted { λ _. ⌜ verdict (dumpOf (now (self .entry))) ≡ Ok (model (now (self .entry))) ⌝ }
-        ensures formed { λ _. ⌜ Formed (model (now (self .entry))) ⌝ }
-    {}
+    // What the heap holds, for reading.
+    pub fn checked(&self) -> Checked<'a>
+        ensures { λ r. ⌜ r ≡ now (self .entry) .checked ⌝ }
+    {
+        self.checked
+    }
 }

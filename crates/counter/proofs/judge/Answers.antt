@@ -1,5 +1,7 @@
 use mathlib.Core.Path.{ap, _∙_}
 use native.Mathlib.Omega.{arith}
+use lib.ListN.{length}
+use Rattle.check.specs.Heaps.{model}
 use Rattle.std.specs.declared.result.Result.the-variants.{Err}
 use Rattle.std.proofs.shelf.Results.{err-from-errBy}
 use Rattle.counter.proofs.Founds.{refused, accepted}
@@ -11,4 +13,4 @@ returns-in-Break-check c =
     refused (c .args .dump .now) (omega arith) _ _ (c .from-residual .result) _ (c .in-Break-check .ensures tt .told) (p .1 ∙ ap Err (p .2))
 
 pub returns : need.returns
-returns c = accepted (c .args .dump .now) (omega arith) _ _ _ (c .in-Continue-check .ensures tt .told) (c .objects .ensures) (c .numerals .ensures)
+returns c = accepted (c .args .dump .now) (omega arith) _ _ _ (c .in-Continue-check .ensures tt .told) (c .objects .ensures ∙ ap (λ x. length (model x .objects)) (c .checked-found .ensures)) (c .numerals .ensures ∙ ap (λ x. length (model x .numerals)) (c .checked-found .ensures))

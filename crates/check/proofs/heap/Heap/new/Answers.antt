@@ -4,9 +4,9 @@ use Rattle.dump.specs.Layouts.{sectionAt}
 use Rattle.dump.specs.Places.{cellAt}
 use Rattle.check.proofs.heap.Heap.new.Needs as need
 
-pub ghost-result-2 : need.ghost-result-2
+pub ghost-result : need.ghost-result
 unfolding word sectionAt cellAt
-ghost-result-2 c = (refl, (refl, (refl, tt)))
+ghost-result c = (refl, (refl, (refl, tt)))
 
 pub returns : need.returns
 unfolding word sectionAt cellAt

@@ -5,7 +5,7 @@ use lib.ListN.{getD}
 use Rattle.dump.specs.Heaps.{Part}
 use Rattle.dump.specs.Heaps.{no-part}
 use Rattle.check.proofs.Held.{passed, objects-are, an-object, parts-at, part-there}
-use Rattle.check.proofs.heap.Heap.part.Needs as need
+use Rattle.check.proofs.checked.Checked.part.Needs as need
 
 pub row-requires : need.row-requires
 row-requires c κs = an-object (c .args .self .now) (c .args .i) (c .pre .object)

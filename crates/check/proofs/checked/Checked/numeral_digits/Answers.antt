@@ -5,7 +5,7 @@ use Rattle.dump.specs.Places.{unitsOf, textOf}
 use Rattle.reads.proofs.Sound.{numeral-placed}
 use Rattle.check.specs.Heaps.{dumpOf}
 use Rattle.check.proofs.Held.{passed, a-numeral, numeral-at}
-use Rattle.check.proofs.heap.Heap.numeral_digits.Needs as need
+use Rattle.check.proofs.checked.Checked.numeral_digits.Needs as need
 
 pub numeral-text-requires : need.numeral-text-requires
 numeral-text-requires c κs = a-numeral (c .args .self .now) (c .args .i) (c .pre)

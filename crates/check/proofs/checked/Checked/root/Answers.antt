@@ -3,7 +3,7 @@ use borrow.Author.Needs.{needs}
 use Rattle.reads.proofs.Sound.{root-placed}
 use Rattle.check.specs.Heaps.{dumpOf}
 use Rattle.check.proofs.Held.{passed, objects-are}
-use Rattle.check.proofs.heap.Heap.root.Needs as need
+use Rattle.check.proofs.checked.Checked.root.Needs as need
 
 pub value-of-requires : need.value-of-requires
 value-of-requires c κs =

@@ -1,7 +1,7 @@
 -- A row of the heap is that of its object.
 use mathlib.Core.Path.{_∙_}
 use Rattle.check.proofs.Held.{passed, an-object, kind-at, row-at}
-use Rattle.check.proofs.heap.Heap.kind.Needs as need
+use Rattle.check.proofs.checked.Checked.kind.Needs as need
 
 pub row-requires : need.row-requires
 row-requires c κs = an-object (c .args .self .now) (c .args .i) (c .pre)

@@ -1,13 +1,16 @@
-// Reading a heap, row by row.
+// Reading a checked dump, row by row.
 ghost use mathlib.Core.Path.{_≡_};
 ghost use Prim.Native.Nat.{_<_};
 ghost use lib.ListN.{length, getD};
 ghost use Rattle.dump.specs.Places.{unitsOf};
 ghost use Rattle.reads.specs.Typed.{RunFits, OctetsFit, octetsOf, valueIn, ValueFits, ValueThere, kindIn, KindFits, partIn, PartFits, PartThere};
 ghost use Rattle.dump.specs.Heaps.{nobody, no-part, no-numeral};
+ghost use Rattle.std.specs.declared.result.Result.the-variants.{Ok};
+ghost use Rattle.rules.specs.Verdicts.{verdict};
+ghost use Rattle.formed.specs.Formed.{Formed};
 ghost use Rattle.check.specs.Heaps.{model};
 ghost use Rattle.check.specs.Heaps.{dumpOf};
-use super::Heap;
+use super::Checked;
 use dump::bytes::unit;
 use dump::row::Run;
 use reads::cells::value_of;
@@ -20,7 +23,7 @@ use reads::parts::part_of;
 use reads::value::Value;
 use rules::texts::run_of;
 
-impl Heap<'_> {
+impl Checked<'_> {
     // How many texts there are, and below parts, numerals and objects.
     pub fn texts(&self) -> usize
         ensures { λ r. ⌜ r ≡ now (self .entry) .raw .layout .texts .count ⌝ }
@@ -116,4 +119,10 @@ impl Heap<'_> {
     {
         self.raw.dump[octets.start + k]
     }
+
+    // Whatever is checked is what an accepted dump means, and well formed. A call that does nothing, for callers' proofs.
+    pub fn stands(&self)
+        ensures accepted { λ _. ⌜ verdict (dumpOf (now (self .entry))) ≡ Ok (model (now (self .entry))) ⌝ }
+        ensures formed { λ _. ⌜ Formed (model (now (self .entry))) ⌝ }
+    {}
 }

@@ -2,7 +2,7 @@
 use mathlib.Core.Path.{sym, ap, _∙_}
 use Rattle.dump.specs.Heaps.{Numeral}
 use Rattle.check.proofs.Held.{a-numeral, numeral-at}
-use Rattle.check.proofs.heap.Heap.numeral_bits.Needs as need
+use Rattle.check.proofs.checked.Checked.numeral_bits.Needs as need
 
 pub numeral-bits-requires : need.numeral-bits-requires
 numeral-bits-requires c κs = a-numeral (c .args .self .now) (c .args .i) (c .pre)
