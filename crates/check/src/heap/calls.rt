@@ -70,7 +70,8 @@ impl<'a> Heap<'a> {
         let raw = Raw { dump, layout };
         rows(&raw)?;
         are_bytes(dump);
-        self.checked = Checked { raw };
+        let checked = Checked { raw };
+        *self = Heap { checked };
         Ok(())
     }
 

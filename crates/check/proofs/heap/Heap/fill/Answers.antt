@@ -3,5 +3,5 @@ use Rattle.std.specs.Results.{isOk}
 use Rattle.dump.specs.Layouts.{numbersOf}
 use Rattle.check.proofs.heap.Heap.fill.Needs as need
 
-pub ghost-self : need.ghost-self
-ghost-self c = (c .are-bytes .ensures, (ap numbersOf (sym (c .in-Continue-layout .ensures tt .is)), (ap isOk (sym (c .in-Continue-rows .ensures tt)), tt)))
+pub ghost-checked : need.ghost-checked
+ghost-checked c = (c .are-bytes .ensures, (ap numbersOf (sym (c .in-Continue-layout .ensures tt .is)), (ap isOk (sym (c .in-Continue-rows .ensures tt)), tt)))
