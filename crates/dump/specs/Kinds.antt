@@ -45,3 +45,18 @@ width Float64Array = 8
 width BigInt64Array = 8
 width BigUint64Array = 8
 width DataView = 1
+
+-- the number of a view kind
+abbrev pub viewNumber : ViewKind → ℕ
+viewNumber Int8Array = 0
+viewNumber Uint8Array = 1
+viewNumber Uint8ClampedArray = 2
+viewNumber Int16Array = 3
+viewNumber Uint16Array = 4
+viewNumber Int32Array = 5
+viewNumber Uint32Array = 6
+viewNumber Float32Array = 7
+viewNumber Float64Array = 8
+viewNumber BigInt64Array = 9
+viewNumber BigUint64Array = 10
+viewNumber DataView = 11

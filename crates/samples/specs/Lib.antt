@@ -1,1 +1,2 @@
 pub mod Dumps
+pub mod Scripts

@@ -1,0 +1,4 @@
+pub mod Syntax
+pub mod Literals
+pub mod Items
+pub mod Texts
