@@ -32,12 +32,18 @@ abbrev pub waiting : Option ℕ → List ℕ
 waiting None = []
 waiting (Some a) = escaped a
 
+-- what is written at a unit, and what then waits
+abbrev pub written : Option ℕ → ℕ → List ℕ
+written None u = cond (isFirst u) [] (escaped u)
+written (Some a) u = cond (isSecond u) (encode (joinPair a u)) (escaped a ++ cond (isFirst u) [] (escaped u))
+
+abbrev pub waitsNext : Option ℕ → ℕ → Option ℕ
+waitsNext None u = cond (isFirst u) (Some u) None
+waitsNext (Some a) u = cond (isFirst u) (Some u) None
+
 abbrev pub readUnits : Option ℕ → Text → List ℕ
 readUnits w [] = waiting w
-readUnits None (u ∷ us) = cond (isFirst u) (readUnits (Some u) us) (escaped u ++ readUnits None us)
-readUnits (Some a) (u ∷ us) =
-    cond (isSecond u) (encode (joinPair a u) ++ readUnits None us)
-    (escaped a ++ cond (isFirst u) (readUnits (Some u) us) (escaped u ++ readUnits None us))
+readUnits w (u ∷ us) = written w u ++ readUnits (waitsNext w u) us
 
 abbrev pub literal : Text → List ℕ
 literal t = 34 ∷ (readUnits None t ++ (34 ∷ []))

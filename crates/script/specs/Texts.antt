@@ -95,19 +95,35 @@ lowFirst (x ∷ xs) = x + lowFirst xs * 256
 abbrev pub elementItem : Bool → Bool → ℕ → ℕ → Item
 elementItem below big w n = cond (below && leb (2 ^ (8 * w - 1)) n) (hex true (2 ^ (8 * w) - n) big) (hex false n big)
 
--- The rows of a list: eight elements a row, each with a comma. `seen` bytes of an element wait, `col` elements stand in the row.
-abbrev pub listRows : Bool → Bool → ℕ → ℕ → List ℕ → ℕ → List ℕ → List Item
-listRows below big w level seen col [] = cond (eqb col 0) [] (line-end ∷ [])
-listRows below big w level seen col (x ∷ xs) =
-    cond (eqb (length seen + 1) w)
-    (cond (eqb col 0) (indent level) (blanks 1 ∷ [])
-    ++ (elementItem below big w (lowFirst (seen ++ (x ∷ []))) ∷ mark 44 ∷ [])
-    ++ cond (eqb col 7) (line-end ∷ listRows below big w level [] 0 xs) (listRows below big w level [] (col + 1) xs))
-    (listRows below big w level (seen ++ (x ∷ [])) col xs)
+-- The rows of a list: eight elements a row, each with a comma. The bytes of an element that were seen wait; so many elements stand in the row.
+pub record Row : Type 0 where
+  pub seen : List ℕ
+  pub filled : ℕ
+
+abbrev pub isWhole : ℕ → Row → Bool
+isWhole w r = eqb (length (r .seen) + 1) w
+
+-- what one byte more makes, and the row after it
+abbrev pub elementAt : Bool → Bool → ℕ → ℕ → Row → ℕ → List Item
+elementAt minus big w level r x =
+    cond (eqb (r .filled) 0) (indent level) (blanks 1 ∷ [])
+    ++ (elementItem minus big w (lowFirst (r .seen ++ (x ∷ []))) ∷ mark 44 ∷ cond (eqb (r .filled) 7) (line-end ∷ []) [])
+
+abbrev pub rowAfter : ℕ → Row → ℕ → Row
+rowAfter w r x =
+    cond (isWhole w r) (record { seen = []; filled = cond (eqb (r .filled) 7) 0 (r .filled + 1) })
+    (record { seen = r .seen ++ (x ∷ []); filled = r .filled })
+
+abbrev pub listRows : Bool → Bool → ℕ → ℕ → Row → List ℕ → List Item
+listRows minus big w level r [] = cond (eqb (r .filled) 0) [] (line-end ∷ [])
+listRows minus big w level r (x ∷ xs) = cond (isWhole w r) (elementAt minus big w level r x) [] ++ listRows minus big w level (rowAfter w r x) xs
+
+abbrev pub noRow : Row
+noRow = record { seen = []; filled = 0 }
 
 -- [..] of the bytes of a list, at an indent
 abbrev pub listItems : Bool → Bool → ℕ → ℕ → List ℕ → List Item
-listItems below big w level bytes = mark 91 ∷ line-end ∷ (listRows below big w (level + 1) [] 0 bytes ++ (indent level ++ (mark 93 ∷ [])))
+listItems below big w level bytes = mark 91 ∷ line-end ∷ (listRows below big w (level + 1) noRow bytes ++ (indent level ++ (mark 93 ∷ [])))
 
 abbrev pub listOf : Listing → ℕ → ℕ → List ℕ → List Item
 listOf (numbers below big) w level bytes = listItems below big w level bytes

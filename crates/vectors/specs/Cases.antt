@@ -17,6 +17,10 @@ use Rattle.rules.specs.Verdicts.{verdict}
 use Rattle.script.specs.Items.{Line, all, cut, line}
 use Rattle.script.specs.Texts.{stmtItems}
 use Rattle.planner.specs.Lines.{Format, Plan, planned}
+use Rattle.numeral.specs.Words.{sameUnits}
+use Rattle.std.specs.Options.{isSome}
+use Rattle.evaluator.specs.Stores.{Val}
+use Rattle.evaluator.specs.Runs.{run}
 
 pub data Answer : Type 0 where
   writes : List String → Answer
@@ -51,3 +55,21 @@ expected (refuses k s i) = refuse k s i
 
 abbrev pub Holds : Case → Type 0
 Holds (case f dump answer) = script (fromHex (codes dump)) f ≡ expected answer
+
+-- the double of a numeral in a heap
+abbrev pub readingIn : List Numeral → List ℕ → Option ℕ
+readingIn [] t = None
+readingIn (n ∷ ns) t = cond (sameUnits t (n .digits)) (Some (n .bits)) (readingIn ns t)
+
+abbrev pub hasResult : {A : Type 0} → Option A → (A → Option Val) → Bool
+hasResult None f = false
+hasResult (Some r) f = isSome (f r)
+
+abbrev pub endsWith : List String → Result Heap Refusal → Bool
+endsWith ls (Err e) = false
+endsWith ls (Ok h) = hasResult (run (readingIn (h .numerals)) (map (λ s. fromHex (codes s)) ls)) (λ r. r .result)
+
+-- a script that is written runs to its end on the evaluator, and gives a result
+abbrev pub Runs : Case → Type 0
+Runs (case f dump (writes ls)) = endsWith ls (verdict (fromHex (codes dump))) ≡ true
+Runs (case f dump (refuses k s i)) = Unit {0}

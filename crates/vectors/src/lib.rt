@@ -1,8 +1,9 @@
-// Dumps with the scripts that they must get: that the definitions give just these, on a function's contract.
+// Dumps with the scripts that they must get: that the definitions give just these, and that these run, on a function's contract.
 ghost use Rattle.std.specs.shelf.Lists.{All};
-ghost use Rattle.vectors.specs.Cases.{Holds};
+ghost use Rattle.vectors.specs.Cases.{Holds, Runs};
 ghost use Rattle.vectors.specs.Tables.{tables};
 
 pub fn vectors_stand()
-    ensures { λ _. ⌜ All (All Holds) tables ⌝ }
+    ensures written { λ _. ⌜ All (All Holds) tables ⌝ }
+    ensures run { λ _. ⌜ All (All Runs) tables ⌝ }
 {}

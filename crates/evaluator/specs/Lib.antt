@@ -1,0 +1,7 @@
+pub mod Options
+pub mod Characters
+pub mod Tokens
+pub mod Trees
+pub mod Stores
+pub mod Makes
+pub mod Runs
