@@ -4,4 +4,6 @@ pub mod Tokens
 pub mod Trees
 pub mod Stores
 pub mod Makes
+pub mod Commands
 pub mod Runs
+pub mod Isomorphic

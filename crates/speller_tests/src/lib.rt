@@ -1,0 +1,3 @@
+// Tests of the crate `speller`: doubles by their bits.
+#[cfg(test)]
+mod tests;
