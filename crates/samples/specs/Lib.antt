@@ -1,2 +1,3 @@
 pub mod Dumps
+pub mod Rebuilds
 pub mod Scripts

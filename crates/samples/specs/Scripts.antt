@@ -15,7 +15,8 @@ use Rattle.dump.specs.Rules.{andThen}
 use Rattle.script.specs.Items.{Line, all, line}
 use Rattle.script.specs.Texts.{stmtItems}
 use Rattle.planner.specs.Lines.{Format, repl, Plan, planned}
-use Rattle.samples.specs.Dumps.{five, emptyMap, emptyObject, ring, shared, ringMap, holed, escapes}
+use Rattle.samples.specs.Rebuilds.{Rebuilt}
+use Rattle.samples.specs.Dumps.{Sample, five, emptyMap, emptyObject, ring, shared, ringMap, holed, escapes}
 
 -- no double has a numeral
 abbrev pub noNumerals : ℕ → Option (List ℕ)
@@ -29,7 +30,7 @@ abbrev pub script : List ℕ → Format → Result (List Line) Refusal
 script b f = andThen (verdict b) (λ h. andThen (planned noNumerals h f) (λ p. Ok (texts p)))
 
 pub record Script : Type 0 where
-  pub dump : List ℕ
+  pub sample : Sample
   pub lines : List Line
 
 -- a line, with its line end
@@ -38,11 +39,11 @@ ended t = all (t ++ (10 ∷ []))
 
 abbrev pub scripts : List Script
 scripts =
-    record { dump = five .dump; lines = all (codes "5") ∷ [] }
-    ∷ record { dump = emptyMap .dump; lines = ended (codes "new Map()") ∷ [] }
-    ∷ record { dump = emptyObject .dump; lines = all (codes "({" ++ (10 ∷ codes "})")) ∷ [] }
+    record { sample = five; lines = all (codes "5") ∷ [] }
+    ∷ record { sample = emptyMap; lines = ended (codes "new Map()") ∷ [] }
+    ∷ record { sample = emptyObject; lines = all (codes "({" ++ (10 ∷ codes "})")) ∷ [] }
     ∷ record {
-      dump = ring .dump;
+      sample = ring;
       lines =
           ended (codes "const v0 = {" ++ (10 ∷ codes "  \"me\": undefined /* circular */,") ++ (10 ∷ codes "};"))
           ∷ ended (codes "v0[\"me\"] = v0;")
@@ -50,14 +51,14 @@ scripts =
           ∷ [];
     }
     ∷ record {
-      dump = shared .dump;
+      sample = shared;
       lines =
           ended (codes "const v0 = new Date(0);")
           ∷ all (codes "({" ++ (10 ∷ codes "  \"p\": v0,") ++ (10 ∷ codes "  \"q\": v0,") ++ (10 ∷ codes "})"))
           ∷ [];
     }
     ∷ record {
-      dump = ringMap .dump;
+      sample = ringMap;
       lines =
           ended (codes "const v0 = new Map([" ++ (10 ∷ codes "]);"))
           ∷ ended (codes "v0.set(1, v0);")
@@ -65,10 +66,14 @@ scripts =
           ∷ all (codes "v0")
           ∷ [];
     }
-    ∷ record { dump = holed .dump; lines = all (codes "[" ++ (10 ∷ codes "  1,") ++ (10 ∷ codes "  /* hole */,") ++ (10 ∷ codes "]")) ∷ [] }
-    ∷ record { dump = escapes .dump; lines = all (codes "\"\\\"\\u{a}\\u{d800}A\"") ∷ [] }
+    ∷ record { sample = holed; lines = all (codes "[" ++ (10 ∷ codes "  1,") ++ (10 ∷ codes "  /* hole */,") ++ (10 ∷ codes "]")) ∷ [] }
+    ∷ record { sample = escapes; lines = all (codes "\"\\\"\\u{a}\\u{d800}A\"") ∷ [] }
     ∷ []
 
 -- each sample dump has just this script
 abbrev pub Scripts-stand : Type 0
-Scripts-stand = All (λ s. script (s .dump) repl ≡ Ok (s .lines)) scripts
+Scripts-stand = All (λ s. script (s .sample .dump) repl ≡ Ok (s .lines)) scripts
+
+-- each script runs on the evaluator, and rebuilds its heap
+abbrev pub Scripts-rebuild : Type 0
+Scripts-rebuild = All (λ s. Rebuilt (s .sample .heap) (s .lines)) scripts
