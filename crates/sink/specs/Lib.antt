@@ -1,0 +1,4 @@
+pub mod Faults
+pub mod Meanings
+pub mod Puts
+pub mod Sinks
