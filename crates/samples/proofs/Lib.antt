@@ -1,1 +1,2 @@
 pub mod Rebuilt
+pub mod Deep

@@ -1,3 +1,4 @@
 pub mod Dumps
 pub mod Rebuilds
 pub mod Scripts
+pub mod Deep

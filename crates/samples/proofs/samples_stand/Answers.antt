@@ -5,6 +5,7 @@ use Rattle.std.specs.Written.{digits}
 use Rattle.dump.specs.Bytes.{word, unit}
 use Rattle.dump.specs.Layouts.{sectionAt}
 use Rattle.dump.specs.Places.{rowAt, cellAt}
+use Rattle.samples.proofs.Deep.{passes, refused}
 use Rattle.samples.proofs.Rebuilt.{rebuilt}
 use Rattle.samples.proofs.samples_stand.Needs as need
 
@@ -13,5 +14,6 @@ unfolding word unit sectionAt rowAt cellAt Ieee.eq Ieee.ofInt Ieee.isNan Ieee.ro
 returns c = record {
   heaps = (refl, (refl, (refl, (refl, (refl, (refl, (refl, (refl, tt))))))));
   scripts = (refl, (refl, (refl, (refl, (refl, (refl, (refl, (refl, tt))))))));
+  deep = (passes, refused);
   rebuilt = rebuilt;
 }
