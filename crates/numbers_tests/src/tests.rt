@@ -1,10 +1,13 @@
-// Numbers at either end, by the speller of whole numbers.
+// Numbers at either end, by the speller of whole numbers and by that of a dump.
 use super::count_number;
 use super::page_number;
+use check::heap::Heap;
 use numbers::fault::NumberFault;
 use speller::whole::Whole;
 use speller::whole::WholeSpeller;
 use std::test::*;
+use table::Table;
+use table::TableSpeller;
 
 fn counted(bits: u64, space: u64) -> Option<u64> {
     match count_number(&Whole, bits, space) {
@@ -43,4 +46,41 @@ fn fills_up() -> Result<(), Fail> {
         _ => return Err(Fail::new("not full")),
     }
     check_eq(memory, [b'-', b'1'])
+}
+
+// A dump with the numerals `-0` and `1.5`.
+const DUMP: &[u8; 90] =
+    b"\x02\0\0\0\0\0\0\0\x02\0\0\0\x02\0\0\0\x03\0\0\0\x05\0\0\0-\00\01\0.\05\0\x02\0\0\0\0\0\0\0\0\0\0\x80\0\0\0\0\0\0\0\0\0\0\xf8?\x01\0\0\0\0\0\0\0\0\0\0\0\0\0\0\0\x01\0\0\0\0\0\0\0\0\0\0\0\0\0\0\0";
+
+fn counted_by_dump<'a>(dump: &'a [u8], bits: u64, space: u64) -> Option<u64> {
+    let mut heap: Heap<'a> = Heap::new();
+    heap.check(dump).ok()?;
+    let table = Table::new(heap.checked());
+    match count_number(&table, bits, space) {
+        Ok(n) => Some(n),
+        Err(_) => None,
+    }
+}
+
+fn paged_by_dump<'a>(dump: &'a [u8], bits: u64, memory: &mut [u8]) -> Option<usize> {
+    let mut heap: Heap<'a> = Heap::new();
+    heap.check(dump).ok()?;
+    let table = Table::new(heap.checked());
+    match page_number(&table, bits, memory) {
+        Ok(n) => Some(n),
+        Err(_) => None,
+    }
+}
+
+#[test]
+fn by_a_dump() -> Result<(), Fail> {
+    check_eq(counted_by_dump(DUMP, 0x3ff8_0000_0000_0000, 3), Some(3))?;
+    check_eq(counted_by_dump(DUMP, 0x3ff8_0000_0000_0000, 2), None)?;
+    check_eq(counted_by_dump(DUMP, 0x4004_0000_0000_0000, 9), None)?;
+    let mut memory = [b'.'; 4];
+    check_eq(
+        paged_by_dump(DUMP, 0x3ff8_0000_0000_0000, &mut memory),
+        Some(3),
+    )?;
+    check_eq(memory, [b'1', b'.', b'5', b'.'])
 }

@@ -39,8 +39,10 @@ IsAll (cut bs bits) = ⊥
 abbrev pub Counts : List (List ℕ) → Entry → Type 0
 Counts left (sends space got (told n)) = (l : List ℕ) × (ls : List (List ℕ)) × (left ≡ l ∷ ls) × (length l ≤ space) × (n ≡ length l) × (got ≡ l)
 Counts left (sends space got (refused k)) =
-    ((k ≡ 23 → left ≡ []) × (left ≡ [] → k ≡ 23))
-    × ((k ≡ 22 → (l : List ℕ) × (ls : List (List ℕ)) × (left ≡ l ∷ ls) × (space < length l)))
+    (k ≡ 23 → left ≡ [])
+    × (left ≡ [] → k ≡ 23)
+    × (k ≡ 22 → (l : List ℕ) × (ls : List (List ℕ)) × (left ≡ l ∷ ls) × (space < length l))
+    × ((l : List ℕ) (ls : List (List ℕ)) → left ≡ l ∷ ls → (k ≡ 22) × (space < length l))
 Counts left (lefts n) = n ≡ length left
 Counts left (ends n) = n ≡ length left
 

@@ -8,7 +8,7 @@ use Rattle.dump.specs.Bytes.{word, unit}
 use Rattle.dump.specs.Layouts.{sectionAt}
 use Rattle.dump.specs.Places.{rowAt, cellAt}
 use Rattle.vectors.specs.Cases.{Runs}
-use Rattle.vectors.specs.Tables.{one, two, three, four, five, six, seven}
+use Rattle.vectors.specs.Tables.{one, two, three, four, five, six, seven, eight}
 
 pub runs-one : All Runs one
 unfolding word unit sectionAt rowAt cellAt Ieee.eq Ieee.ofInt Ieee.ofBits Ieee.ofFields Ieee.toBits Ieee.toUnsigned Ieee.isNan Ieee.round Ieee.units Ieee.odd Ieee.size Ieee.climb Ieee.span digits
@@ -37,3 +37,7 @@ runs-six = (refl, (refl, (refl, (refl, (refl, (refl, (refl, (refl, (refl, (refl,
 pub runs-seven : All Runs seven
 unfolding word unit sectionAt rowAt cellAt Ieee.eq Ieee.ofInt Ieee.ofBits Ieee.ofFields Ieee.toBits Ieee.toUnsigned Ieee.isNan Ieee.round Ieee.units Ieee.odd Ieee.size Ieee.climb Ieee.span digits
 runs-seven = (refl, (refl, (refl, (refl, (refl, (refl, (refl, (refl, (refl, (refl, tt))))))))))
+
+pub runs-eight : All Runs eight
+unfolding word unit sectionAt rowAt cellAt Ieee.eq Ieee.ofInt Ieee.ofBits Ieee.ofFields Ieee.toBits Ieee.toUnsigned Ieee.isNan Ieee.round Ieee.units Ieee.odd Ieee.size Ieee.climb Ieee.span digits
+runs-eight = (tt, (tt, (tt, (refl, (refl, (refl, (refl, (refl, (refl, (refl, tt))))))))))

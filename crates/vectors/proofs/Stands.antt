@@ -8,7 +8,7 @@ use Rattle.dump.specs.Bytes.{word, unit}
 use Rattle.dump.specs.Layouts.{sectionAt}
 use Rattle.dump.specs.Places.{rowAt, cellAt}
 use Rattle.vectors.specs.Cases.{Holds}
-use Rattle.vectors.specs.Tables.{one, two, three, four, five, six, seven}
+use Rattle.vectors.specs.Tables.{one, two, three, four, five, six, seven, eight}
 
 pub stand-one : All Holds one
 unfolding word unit sectionAt rowAt cellAt Ieee.eq Ieee.ofInt Ieee.ofBits Ieee.ofFields Ieee.toBits Ieee.isNan Ieee.round Ieee.units Ieee.odd Ieee.size Ieee.climb Ieee.span encode digits
@@ -37,3 +37,7 @@ stand-six = (refl, (refl, (refl, (refl, (refl, (refl, (refl, (refl, (refl, (refl
 pub stand-seven : All Holds seven
 unfolding word unit sectionAt rowAt cellAt Ieee.eq Ieee.ofInt Ieee.ofBits Ieee.ofFields Ieee.toBits Ieee.isNan Ieee.round Ieee.units Ieee.odd Ieee.size Ieee.climb Ieee.span encode digits
 stand-seven = (refl, (refl, (refl, (refl, (refl, (refl, (refl, (refl, (refl, (refl, tt))))))))))
+
+pub stand-eight : All Holds eight
+unfolding word unit sectionAt rowAt cellAt Ieee.eq Ieee.ofInt Ieee.ofBits Ieee.ofFields Ieee.toBits Ieee.isNan Ieee.round Ieee.units Ieee.odd Ieee.size Ieee.climb Ieee.span encode digits
+stand-eight = (refl, (refl, (refl, (refl, (refl, (refl, (refl, (refl, (refl, (refl, tt))))))))))

@@ -1,0 +1,3 @@
+// Tests of the crate `table`: small dumps with their numerals.
+#[cfg(test)]
+mod tests;
