@@ -104,17 +104,22 @@ onlyVal (None ∷ vs) = None
 onlyVal (Some v ∷ []) = Some v
 onlyVal (Some v ∷ x ∷ xs) = None
 
--- brackets behind what was read: an array, an expression in brackets, arguments
-abbrev pub bracket : Partial → ℕ → List (Option Val) → State → Option Stepped
-bracket nothing c vs s =
+-- a comma at this level
+abbrev pub hasComma : Trees → Bool
+hasComma nil = false
+hasComma (cons t ts) = isMark 44 t || hasComma ts
+
+-- brackets behind what was read: an array, an expression in brackets (with no comma), arguments
+abbrev pub bracket : Partial → ℕ → Bool → List (Option Val) → State → Option Stepped
+bracket nothing c comma-inside vs s =
     cond (eqb c 91) (ofMade (make (array (length vs)) (elementSlots 0 vs) s))
-    (andThen (onlyVal vs) (λ v. stepped (got v) s))
-bracket (got v) c vs s = None
-bracket negative c vs s = None
-bracket new-word c vs s = None
-bracket (new-of w) c vs s = when (eqb c 40) (andThen (allVals vs) (λ us. ofMade (construct w us s)))
-bracket (dotted v) c vs s = None
-bracket (method v w) c vs s = when (eqb c 40) (andThen (allVals vs) (λ us. ofMade (call w v us s)))
+    (when (not comma-inside) (andThen (onlyVal vs) (λ v. stepped (got v) s)))
+bracket (got v) c comma-inside vs s = None
+bracket negative c comma-inside vs s = None
+bracket new-word c comma-inside vs s = None
+bracket (new-of w) c comma-inside vs s = when (eqb c 40) (andThen (allVals vs) (λ us. ofMade (construct w us s)))
+bracket (dotted v) c comma-inside vs s = None
+bracket (method v w) c comma-inside vs s = when (eqb c 40) (andThen (allVals vs) (λ us. ofMade (call w v us s)))
 
 abbrev pub braced : Partial → List Slot → State → Option Stepped
 braced nothing ss s = ofMade (make ordinary ss s)
@@ -257,7 +262,7 @@ module _ (reading : List ℕ → Option ℕ) where
     evalTree (leaf t) p s = leafStep p t s
     evalTree (node c inner) p s =
         cond (eqb c 123) (andThen (evalBraces inner want-key [] s) (λ b. braced p (b .made-slots) (b .then-state)))
-        (andThen (evalList inner nothing [] s) (λ l. bracket p c (l .vals) (l .state)))
+        (andThen (evalList inner nothing [] s) (λ l. bracket p c (hasComma inner) (l .vals) (l .state)))
 
     -- expressions with commas between them
     pub evalList : Trees → Partial → List (Option Val) → State → Option Listed
@@ -268,7 +273,7 @@ module _ (reading : List ℕ → Option ℕ) where
     -- a key in braces, or in square brackets there
     pub evalKey : Tree → State → Option Keyed
     evalKey (leaf t) s = leafKey t s
-    evalKey (node c inner) s = when (eqb c 91) (andThen (evalList inner nothing [] s) (λ l. andThen (andThen (onlyVal (l .vals)) keyIn) (λ k. Some (record { key = k; key-state = l .state }))))
+    evalKey (node c inner) s = when (eqb c 91 && not (hasComma inner)) (andThen (evalList inner nothing [] s) (λ l. andThen (andThen (onlyVal (l .vals)) keyIn) (λ k. Some (record { key = k; key-state = l .state }))))
 
     -- keys and values in braces
     pub evalBraces : Trees → Keying → List Slot → State → Option Braced
@@ -281,7 +286,7 @@ module _ (reading : List ℕ → Option ℕ) where
 
   -- one expression
   abbrev pub evaluate : Trees → State → Option Made
-  evaluate ts s = andThen (evalList ts nothing [] s) (λ l. andThen (onlyVal (l .vals)) (λ v. made v (l .state)))
+  evaluate ts s = when (not (hasComma ts)) (andThen (evalList ts nothing [] s) (λ l. andThen (onlyVal (l .vals)) (λ v. made v (l .state))))
 
   abbrev pub runCommand : Command → State → Option Ran
   runCommand (binds n e) s =
