@@ -18,9 +18,10 @@ use Rattle.script.specs.Items.{Line, all, cut, line}
 use Rattle.script.specs.Texts.{stmtItems}
 use Rattle.planner.specs.Lines.{Format, Plan, planned}
 use Rattle.numeral.specs.Words.{sameUnits}
-use Rattle.std.specs.Options.{isSome}
 use Rattle.evaluator.specs.Stores.{Val}
+use Rattle.evaluator.specs.Commands.{Ran}
 use Rattle.evaluator.specs.Runs.{run}
+use Rattle.evaluator.specs.Isomorphic.{Isomorphic}
 
 pub data Answer : Type 0 where
   writes : List String → Answer
@@ -38,6 +39,9 @@ fromHex [] = []
 fromHex (a ∷ []) = []
 fromHex (a ∷ b ∷ cs) = (digit a * 16 + digit b) ∷ fromHex cs
 
+abbrev pub bytesIn : String → List ℕ
+bytesIn s = fromHex (codes s)
+
 -- the numeral of a double in a heap
 abbrev pub numeralIn : List Numeral → ℕ → Option (List ℕ)
 numeralIn [] bits = None
@@ -50,26 +54,30 @@ abbrev pub script : List ℕ → Format → Result (List Line) Refusal
 script b f = andThen (verdict b) (λ h. linesOf h f)
 
 abbrev expected : Answer → Result (List Line) Refusal
-expected (writes ls) = Ok (map (λ s. all (fromHex (codes s))) ls)
+expected (writes ls) = Ok (map (λ s. all (bytesIn s)) ls)
 expected (refuses k s i) = refuse k s i
 
 abbrev pub Holds : Case → Type 0
-Holds (case f dump answer) = script (fromHex (codes dump)) f ≡ expected answer
+Holds (case f dump answer) = script (bytesIn dump) f ≡ expected answer
 
 -- the double of a numeral in a heap
 abbrev pub readingIn : List Numeral → List ℕ → Option ℕ
 readingIn [] t = None
 readingIn (n ∷ ns) t = cond (sameUnits t (n .digits)) (Some (n .bits)) (readingIn ns t)
 
-abbrev pub hasResult : {A : Type 0} → Option A → (A → Option Val) → Bool
-hasResult None f = false
-hasResult (Some r) f = isSome (f r)
+-- The lines run to their end on the evaluator, and the result is the heap's graph.
+pub record Rebuilt (h : Heap) (ls : List (List ℕ)) : Type 0 where
+  pub ran : Ran
+  pub value : Val
+  pub runs : run (readingIn (h .numerals)) ls ≡ Some ran
+  pub result : ran .result ≡ Some value
+  pub same : Isomorphic h (ran .state) value
 
-abbrev pub endsWith : List String → Result Heap Refusal → Bool
-endsWith ls (Err e) = false
-endsWith ls (Ok h) = hasResult (run (readingIn (h .numerals)) (map (λ s. fromHex (codes s)) ls)) (λ r. r .result)
+abbrev pub RebuiltFrom : Result Heap Refusal → List (List ℕ) → Type 0
+RebuiltFrom (Err e) ls = ⊥
+RebuiltFrom (Ok h) ls = Rebuilt h ls
 
--- a script that is written runs to its end on the evaluator, and gives a result
-abbrev pub Runs : Case → Type 0
-Runs (case f dump (writes ls)) = endsWith ls (verdict (fromHex (codes dump))) ≡ true
-Runs (case f dump (refuses k s i)) = Unit {0}
+-- a script that is written rebuilds the heap of its dump
+abbrev pub Rebuilds : Case → Type 0
+Rebuilds (case f dump (writes ls)) = RebuiltFrom (verdict (bytesIn dump)) (map bytesIn ls)
+Rebuilds (case f dump (refuses k s i)) = Unit {0}

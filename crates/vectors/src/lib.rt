@@ -1,9 +1,9 @@
-// Dumps with the scripts that they must get: that the definitions give just these, and that these run, on a function's contract.
+// Dumps with the scripts that they must get: that the definitions give just these, and that these rebuild the heaps, on a function's contract.
 ghost use Rattle.std.specs.shelf.Lists.{All};
-ghost use Rattle.vectors.specs.Cases.{Holds, Runs};
+ghost use Rattle.vectors.specs.Cases.{Holds, Rebuilds};
 ghost use Rattle.vectors.specs.Tables.{tables};
 
 pub fn vectors_stand()
     ensures written { λ _. ⌜ All (All Holds) tables ⌝ }
-    ensures run { λ _. ⌜ All (All Runs) tables ⌝ }
+    ensures rebuilt { λ _. ⌜ All (All Rebuilds) tables ⌝ }
 {}
