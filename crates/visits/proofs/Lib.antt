@@ -1,0 +1,4 @@
+pub mod Lists
+pub mod Visits
+pub mod Orders
+pub mod Edges
