@@ -12,10 +12,10 @@ use Rattle.std.proofs.shelf.Tests.{cases-lt, or-cases, both-ways, or-right, or-
 use Rattle.dump.specs.Heaps.{Heap}
 use Rattle.planner.specs.Visits.{refs, edges, objectAt, mem, visit, reached, order}
 use Rattle.planner.specs.Names.{placeIn, count, any, kindNeedsName, usesBy, uses, turns, needsName, inlines}
-use Rattle.visits.specs.Stands.{InRange, Reach, at-root, by-edge}
+use Rattle.visits.specs.Stands.{Reach, at-root, by-edge}
 use Rattle.visits.proofs.Lists.{count-mem, split-at, once-before}
 use Rattle.visits.proofs.Orders.{place-before}
-use Rattle.visits.proofs.Visits.{Other, Twice, Visited, visited, at-split, reached-in}
+use Rattle.visits.proofs.Visits.{InRange, Other, Twice, Visited, visited, at-split, reached-in}
 
 -- a test that holds of a member holds of some
 pub any-mem : (p : ℕ → Bool) (x : ℕ) (xs : List ℕ) → mem x xs ≡ true → p x ≡ true → any p xs ≡ true

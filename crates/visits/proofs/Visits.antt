@@ -13,8 +13,12 @@ use Rattle.std.proofs.shelf.Tests.{cases-eq, or-parts, or-cases, both-ways, con
 use Rattle.dump.specs.Heaps.{Object, nobody, Heap}
 use Rattle.planner.specs.Visits.{edgesOf, edges, mem, Frame, at, Visiting, open-objects, visitFrames, visitRun, fuel, visit}
 use Rattle.planner.specs.Names.{count}
-use Rattle.visits.specs.Stands.{InRange, Reach, at-root, by-edge, Last}
+use Rattle.visits.specs.Stands.{Reach, at-root, by-edge, Last}
 use Rattle.visits.proofs.Lists.{count-++, mem-snoc, mem-left, mem-right, mem-head, count-mem, count-none, split-at, nil-app, snoc-split}
+
+-- each edge goes to an object of the heap
+abbrev pub InRange : Heap → Type 0
+InRange h = (i j : ℕ) → mem j (edges h i) ≡ true → j < length (h .objects)
 
 -- an object other than i that is seen has an edge to j
 pub record Other (h : Heap) (sn : ℕ → Bool) (i j : ℕ) : Type 0 where

@@ -3,15 +3,11 @@ use mathlib.Core.Path.{_≡_}
 use mathlib.Core.List.{List, [], _∷_, _++_}
 use mathlib.Core.Bool.{true}
 use mathlib.Core.Logic.{_⊎_}
-use Prim.Native.Nat.{ℕ, _+_, _≤_, _<_}
-use lib.ListN.{length}
-use Rattle.dump.specs.Heaps.{Heap}
-use Rattle.planner.specs.Visits.{refs, edges, mem, at, visitRun, fuel, visit}
-use Rattle.planner.specs.Names.{placeIn, count, usesBy, uses, needsName, inlines}
-
--- each edge goes to an object of the heap
-abbrev pub InRange : Heap → Type 0
-InRange h = (i j : ℕ) → mem j (edges h i) ≡ true → j < length (h .objects)
+use Prim.Native.Nat.{ℕ, _≤_, _<_}
+use Rattle.dump.specs.Heaps.{object, Heap}
+use Rattle.formed.specs.Formed.{Formed}
+use Rattle.planner.specs.Visits.{edges, mem, at, visitRun, fuel, visit}
+use Rattle.planner.specs.Names.{placeIn, count, uses, needsName, inlines}
 
 -- what is reachable from the root
 pub data Reach (h : Heap) (r : ℕ) : ℕ → Type 0 where
@@ -36,11 +32,12 @@ pub record Stands (h : Heap) (r : ℕ) : Type 0 where
   -- an object with an edge that turns needs a name
   pub named : (i j : ℕ) → mem j (edges h i) ≡ true → placeIn (visit h r) i ≤ placeIn (visit h r) j → needsName h (visit h r) i ≡ true
   -- what such an edge goes to is used twice
-  pub twice : refs (h .root) ≡ r ∷ [] → (i j : ℕ) → mem i (visit h r) ≡ true → mem j (edges h i) ≡ true → placeIn (visit h r) i ≤ placeIn (visit h r) j → 2 ≤ uses h (visit h r) j
+  pub twice : (i j : ℕ) → mem i (visit h r) ≡ true → mem j (edges h i) ≡ true → placeIn (visit h r) i ≤ placeIn (visit h r) j → 2 ≤ uses h (visit h r) j
   -- the edges of what inlines go back, as do those to it, and it is used just once
   pub back : (x j : ℕ) → inlines h (visit h r) x ≡ true → mem j (edges h x) ≡ true → placeIn (visit h r) j < placeIn (visit h r) x
-  pub ahead : refs (h .root) ≡ r ∷ [] → (i x : ℕ) → inlines h (visit h r) x ≡ true → mem i (visit h r) ≡ true → mem x (edges h i) ≡ true → placeIn (visit h r) x < placeIn (visit h r) i
-  pub single : refs (h .root) ≡ r ∷ [] → (x : ℕ) → inlines h (visit h r) x ≡ true → mem x (visit h r) ≡ true → count x (refs (h .root)) + usesBy h (visit h r) (visit h r) x ≡ 1
+  pub ahead : (i x : ℕ) → inlines h (visit h r) x ≡ true → mem i (visit h r) ≡ true → mem x (edges h i) ≡ true → placeIn (visit h r) x < placeIn (visit h r) i
+  pub single : (x : ℕ) → inlines h (visit h r) x ≡ true → mem x (visit h r) ≡ true → uses h (visit h r) x ≡ 1
 
+-- of every heap of an accepted dump whose root is an object
 abbrev pub Visit-stands : Type 0
-Visit-stands = (h : Heap) (r : ℕ) → InRange h → r < length (h .objects) → Stands h r
+Visit-stands = (h : Heap) (r : ℕ) → Formed h → h .root ≡ object r → Stands h r
