@@ -3,6 +3,7 @@ use mathlib.Core.Path.{_≡_}
 use mathlib.Core.List.{List, [], _∷_, _++_}
 use Prim.Native.Nat.{ℕ, _+_, _≤_, _<_}
 use lib.ListN.{length, take}
+use Rattle.sink.specs.Meanings.{Meaning, run}
 
 -- a send tells the bytes of its line, or refuses with a number
 pub data Answer : Type 0 where
@@ -12,6 +13,15 @@ pub data Answer : Type 0 where
 pub data Entry : Type 0 where
   sends : ℕ → List ℕ → Answer → Entry
   lefts ends : ℕ → Entry
+
+-- A send into a sink that means k before and k′ after leaves this entry: the sink's rule was followed over the entry's bytes, in the entry's space.
+-- An entry itself has no sink, so a trace may go to sinks of several types.
+pub record Leaves {K : Type 0} (m : Meaning K) (k : K) (answer : Answer) (k′ : K) (e : Entry) : Type 0 where
+  pub got : List ℕ
+  pub entry : e ≡ sends (m .space k) got answer
+  pub goes : m .state k′ ≡ run (m .rule) (m .state k) got
+  pub space : m .space k′ + length got ≡ m .space k
+  pub stays : m .place k′ ≡ m .place k
 
 -- What one call does to a delivery of lines that are left, each in bytes. This is what the calls' contracts say.
 abbrev pub SendsLine : List ℕ → List (List ℕ) → ℕ → List ℕ → Answer → List (List ℕ) → Type 0
