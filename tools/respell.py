@@ -19,6 +19,8 @@ import sys
 WORD = re.compile(r'[^\s(){}.;,@"«»]+')
 SIG = re.compile(r"(?m)^ *(?:(?:pub|abbrev|unfoldable|record|data) )*((?:[^\s(){}.;,@\"«»:]+ )+)(?:\{[^{}\n]*\} |\([^()\n]*\) )*:(?= |$)(.*)")
 QUIET = re.compile(r'"(?:[^"\\\n]|\\.)*"')
+# What a file takes from a library of the kit: not ours to rename.
+TAKEN = re.compile(r"\buse (?:Rattle\.(?:std|core|io|std_alloc|std_collections|std_heap|std_io)\b|lib\b|Prim\b|native\b|mathlib\b|denote\b|borrow\b)[^\s;{]*\.\{([^}]*)\}")
 GENERATED = re.compile(r"^(returns|loop|invariant|decreases|overflow|bounds|slice_bounds|nonzero|prove)(-|$)")
 KEPT_HEADS = ("length-", "get_or-", "take-")
 SKIP = set()
@@ -81,10 +83,13 @@ def respelled(name, types):
 
 def table(files):
     declared, labels, types, words = set(), set(), set(), collections.Counter()
+    library = set()
     for path in files:
         text = read(path)
         code = QUIET.sub('""', text)
         words.update(WORD.findall(code))
+        for m in TAKEN.finditer(code):
+            library.update(item.split(" as ")[0].strip() for item in m[1].split(","))
         if not path.endswith(".antt"):
             continue
         for m in SIG.finditer(code):
@@ -98,7 +103,7 @@ def table(files):
                     types.add(name)
     rows = {}
     for name in sorted(words):
-        if name in labels or name in SKIP:
+        if name in labels or name in library or name in SKIP:
             continue
         is_camel = re.fullmatch(r"[a-z][A-Za-z0-9_'-]*", name) and re.search(r"[a-z0-9][A-Z]", name)
         if is_camel or (name in declared and "-" in name and name[:1].isalpha()):
@@ -117,8 +122,8 @@ def turn_words(text, rows, give_way):
     def word(m):
         # a function of src/ in a path keeps its name
         in_path = m.start() and m.string[m.start() - 1] == "." or m.string[m.end():m.end() + 1] == "."
-        if m[0] in GIVE_WAY:
-            return GIVE_WAY[m[0]] if give_way and not in_path else m[0]
+        if m[0] in give_way and not in_path:
+            return give_way[m[0]]
         return rows.get(m[0], m[0])
 
     out, at = [], 0
@@ -161,9 +166,11 @@ def main(argv):
             for old, new in sorted(rows.items()):
                 print(old, new)
         return 1 if bad else 0
+    # a second run finds no definition that still gets such a name, and turns nothing
+    give_way = {w: to for w, to in GIVE_WAY.items() if any(new == w and "-" not in old for old, new in rows.items())}
     for path in files:
         text = read(path)
-        new = turn_words(text, rows, path.endswith(".antt"))
+        new = turn_words(text, rows, give_way if path.endswith(".antt") else {})
         if new != text:
             write(path, new)
     print(len(rows), "names turned")

@@ -1,5 +1,5 @@
 -- What the expressions without a name make: of appended references, past a name, at the place of an object.
-use Rattle.std.proofs.Common.{◌≡◌, ℕ, ◌+◌, ◌<◌, true, false, List, [], ◌∷◌, ◌++◌, length, get_or, sym, ap, ◌∙◌, append_nil, arith, length-append}
+use Rattle.std.proofs.Common.{◌≡◌, ℕ, ◌+◌, ◌<◌, true, false, List, [], ◌∷◌, ◌++◌, length, get_or, sym, ap, ◌∙◌, append-nil, arith, length-append}
 use Rattle.std.proofs.lemmas.List.{get_or_append_left, get_or_at}
 use Rattle.std.proofs.lemmas.Bool.{cond-true, cond-false}
 use Rattle.dump.specs.Heaps.{Heap}
@@ -26,7 +26,7 @@ module _ (h : Heap) (order : List ℕ) where
 
   -- what has none makes what its place has
   pub within_one : (j : ℕ) → has_name h order j ≡ false → within h order (j ∷ []) ≡ get_or (makes h order) (pos h order j) []
-  within_one j e = cond-false (has_name h order j) [] (get_or (makes h order) (pos h order j) [] ++ []) e ∙ append_nil (get_or (makes h order) (pos h order j) [])
+  within_one j e = cond-false (has_name h order j) [] (get_or (makes h order) (pos h order j) [] ++ []) e ∙ append-nil (get_or (makes h order) (pos h order j) [])
 
   -- at the place of an object: what hangs in it without a name, and itself
   pub makes_at : (x : ℕ) → Formed h → Adequate h order → mem x order ≡ true → get_or (makes h order) (pos h order x) [] ≡ within h order (edges h x) ++ (x ∷ [])

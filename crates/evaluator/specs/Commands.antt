@@ -2,7 +2,7 @@
 use Rattle.std.specs.Prelude.{ℕ, Bool, true, false, cond, not, ◌&&◌, ◌||◌, List, [], ◌∷◌, ◌++◌, Some, None, codes, Option, ◌==◌, nat_lt}
 use Rattle.dump.specs.Heaps.{Text}
 use Rattle.numeral.specs.Digits.{index_of, whole_within}
-use Rattle.numeral.specs.Words.{same_units_lem}
+use Rattle.numeral.specs.Words.{same_units}
 use Rattle.evaluator.specs.Options.{and_then, when, or_else}
 use Rattle.evaluator.specs.Tokens.{Token, word, number, string, mark, break}
 use Rattle.evaluator.specs.Trees.{Tree, leaf, node, Trees, nil, cons}
@@ -15,7 +15,7 @@ name_of [] = None
 name_of (c ∷ cs) = when (c == 118) (whole_within 4294967295 cs)
 
 abbrev pub is_proto : Text → Bool
-is_proto t = same_units_lem t (codes "__proto__")
+is_proto t = same_units t (codes "__proto__")
 
 abbrev pub is_mark : ℕ → Tree → Bool
 is_mark c (leaf (word w)) = false
@@ -34,15 +34,15 @@ assigned k v ordinary ss = when (not (is_proto k) || has_key k ss) (Some (record
 assigned k v (array n) ss = when (may_assign (index_of k)) (Some (record { shape = array n; slots = with_key k v ss }))
   where
     may_assign : Option ℕ → Bool
-    may_assign None = not (is_proto k) && not (same_units_lem k (codes "length"))
+    may_assign None = not (is_proto k) && not (same_units k (codes "length"))
     may_assign (Some i) = nat_lt i n
 assigned k v mapping ss = None
 assigned k v setting ss = None
 assigned k v (buffer bs m) ss = None
 assigned k v (view w o n) ss = None
 assigned k v (error e m st) ss =
-    cond (same_units_lem k (codes "cause")) (Some (record { shape = error e m st; slots = single v ∷ [] }))
-    (when (same_units_lem k (codes "stack")) (and_then (message_in v) (λ t. Some (record { shape = error e m t; slots = ss }))))
+    cond (same_units k (codes "cause")) (Some (record { shape = error e m st; slots = single v ∷ [] }))
+    (when (same_units k (codes "stack")) (and_then (message_in v) (λ t. Some (record { shape = error e m t; slots = ss }))))
 
 pub data Command : Type 0 where
   binds : ℕ → Trees → Command

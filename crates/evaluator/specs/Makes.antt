@@ -8,7 +8,7 @@ use Rattle.dump.specs.declared.kinds.ErrorName.{ErrorName}
 use Rattle.dump.specs.declared.kinds.ErrorName.TheVariants.{Error, EvalError, RangeError, ReferenceError, SyntaxError, TypeError, UriError}
 use Rattle.dump.specs.Heaps.{Text}
 use Rattle.numeral.specs.Numerals.{finite, signed, whole_bits}
-use Rattle.numeral.specs.Words.{same_units_lem}
+use Rattle.numeral.specs.Words.{same_units}
 use Rattle.evaluator.specs.Options.{and_then, when, or_else}
 use Rattle.evaluator.specs.Stores.{Val, undefined, null, boolean, number, big, text, ref, Shape, wrapped, regexp, date, ordinary, array, mapping, setting, buffer, view, error, Slot, keyed, pair, single, Obj, State, Made, made, make, change, place, object_of, map_set, set_add}
 
@@ -24,22 +24,22 @@ integer false n = pos n
 integer true zero = pos 0
 integer true (suc n) = negsuc n
 
-abbrev pub whole_in_lem : ℕ → Option ℤ
-whole_in_lem bits = when (nat_le (cut_to bits) 9007199254740991 && bits == whole_bits (signed bits) (cut_to bits)) (Some (integer (signed bits) (cut_to bits)))
+abbrev pub whole_in : ℕ → Option ℤ
+whole_in bits = when (nat_le (cut_to bits) 9007199254740991 && bits == whole_bits (signed bits) (cut_to bits)) (Some (integer (signed bits) (cut_to bits)))
 
 abbrev pub natural : ℤ → Option ℕ
 natural (pos n) = Some n
 natural (negsuc n) = None
 
 -- a number from 0 on
-abbrev pub index_in_lem : Val → Option ℕ
-index_in_lem undefined = None
-index_in_lem null = None
-index_in_lem (boolean b) = None
-index_in_lem (number bits) = and_then (whole_in_lem bits) natural
-index_in_lem (big z) = None
-index_in_lem (text t) = None
-index_in_lem (ref n) = None
+abbrev pub index_in : Val → Option ℕ
+index_in undefined = None
+index_in null = None
+index_in (boolean b) = None
+index_in (number bits) = and_then (whole_in bits) natural
+index_in (big z) = None
+index_in (text t) = None
+index_in (ref n) = None
 
 abbrev pub text_in : Val → Option Text
 text_in undefined = None
@@ -51,8 +51,8 @@ text_in (text t) = Some t
 text_in (ref n) = None
 
 -- a property key: a text, or a whole number in decimal
-abbrev pub key_in_lem : Val → Option Text
-key_in_lem v = or_else (text_in v) (and_then (index_in_lem v) (λ n. Some (decimal n)))
+abbrev pub key_in : Val → Option Text
+key_in v = or_else (text_in v) (and_then (index_in v) (λ n. Some (decimal n)))
 
 pub data Sort : Type 0 where
   -- numbers, clamped to a byte or not; BigInts; none of those
@@ -67,7 +67,7 @@ abbrev pub typed : ViewKind → ℕ → Sort → Option Typed
 typed k w s = Some (record { kind = k; width = w; sort = s })
 
 abbrev pub is : List ℕ → List ℕ → Bool
-is w v = same_units_lem w v
+is w v = same_units w v
 
 -- the views by their constructors
 abbrev pub view_of : List ℕ → Option Typed
@@ -167,7 +167,7 @@ within (pos n) = nat_le n 8640000000000000
 within (negsuc n) = nat_lt n 8640000000000000
 
 abbrev pub time_in : ℕ → Option (Option ℤ)
-time_in bits = cond (finite bits) (and_then (whole_in_lem bits) (λ z. Some (cond (within z) (Some z) None))) (Some None)
+time_in bits = cond (finite bits) (and_then (whole_in bits) (λ z. Some (cond (within z) (Some z) None))) (Some None)
 
 -- the values of an array without holes
 abbrev pub slot_values : List Slot → List Val
@@ -253,7 +253,7 @@ abbrev pub number_element : (ℤ → ℤ) → ℕ → Val → Option (List ℕ)
 number_element f w undefined = None
 number_element f w null = None
 number_element f w (boolean b) = None
-number_element f w (number bits) = and_then (whole_in_lem bits) (λ z. Some (low_bytes w (modulo w (f z))))
+number_element f w (number bits) = and_then (whole_in bits) (λ z. Some (low_bytes w (modulo w (f z))))
 number_element f w (big z) = None
 number_element f w (text t) = None
 number_element f w (ref n) = None
@@ -286,35 +286,35 @@ abbrev pub fresh_typed : Typed → List ℕ → State → Option Made
 fresh_typed t bs s = and_then (make (buffer bs None) [] s) (λ b. make (view t.kind 0 (Some (length bs / t.width))) (single b.val ∷ []) b.state)
 
 -- a view on a buffer: aligned and inside; without a length it reaches the end of a fixed buffer, and tracks a resizable one
-abbrev pub place_view_lem : ViewKind → Val → ℕ → Option ℕ → BufferHeld → State → Option Made
-place_view_lem k on offset (Some n) b s =
+abbrev pub place_view : ViewKind → Val → ℕ → Option ℕ → BufferHeld → State → Option Made
+place_view k on offset (Some n) b s =
     when (offset % width_of k == 0 && nat_le (offset + n * width_of k) (length b.bytes)) (make (view k offset (Some n)) (single on ∷ []) s)
-place_view_lem k on offset None b s =
+place_view k on offset None b s =
     when (offset % width_of k == 0 && nat_le offset (length b.bytes))
     (cond (is_some b.maximum) (make (view k offset None) (single on ∷ []) s)
     (when (length b.bytes % width_of k == 0) (make (view k offset (Some ((length b.bytes - offset) / width_of k))) (single on ∷ []) s)))
 
 abbrev pub view_on : ViewKind → Val → ℕ → Option ℕ → State → Option Made
-view_on k on offset n s = and_then (buffer_at s on) (λ b. place_view_lem k on offset n b s)
+view_on k on offset n s = and_then (buffer_at s on) (λ b. place_view k on offset n b s)
 
 -- new K(..): nothing, a count, a list, or a buffer with an offset and a length
 abbrev pub new_first : Typed → Val → State → Option Made
 new_first t v s =
-    or_else (and_then (index_in_lem v) (λ n. when (is_typed t.kind) (fresh_typed t (zeros (n * t.width)) s)))
+    or_else (and_then (index_in v) (λ n. when (is_typed t.kind) (fresh_typed t (zeros (n * t.width)) s)))
     (or_else (and_then (list_of s v) (λ vs. when (is_typed t.kind) (and_then (elements t.sort t.width vs) (λ bs. fresh_typed t bs s))))
     (view_on t.kind v 0 None s))
 
 abbrev pub new_view : Typed → List Val → State → Option Made
 new_view t [] s = when (is_typed t.kind) (fresh_typed t [] s)
 new_view t (v ∷ []) s = new_first t v s
-new_view t (v ∷ o ∷ []) s = and_then (index_in_lem o) (λ offset. view_on t.kind v offset None s)
-new_view t (v ∷ o ∷ n ∷ []) s = and_then (index_in_lem o) (λ offset. and_then (index_in_lem n) (λ count. view_on t.kind v offset (Some count) s))
+new_view t (v ∷ o ∷ []) s = and_then (index_in o) (λ offset. view_on t.kind v offset None s)
+new_view t (v ∷ o ∷ n ∷ []) s = and_then (index_in o) (λ offset. and_then (index_in n) (λ count. view_on t.kind v offset (Some count) s))
 new_view t (v ∷ o ∷ n ∷ x ∷ xs) s = None
 
 -- an option of an object literal
 abbrev pub option_in : Text → List Slot → Option Val
 option_in k [] = None
-option_in k (keyed l v ∷ ss) = cond (same_units_lem k l) (Some v) (option_in k ss)
+option_in k (keyed l v ∷ ss) = cond (same_units k l) (Some v) (option_in k ss)
 option_in k (pair v w ∷ ss) = option_in k ss
 option_in k (single v ∷ ss) = option_in k ss
 
@@ -323,9 +323,9 @@ option k v s = and_then (object_of s v) (λ o. option_in k o.slots)
 
 abbrev pub new_buffer : List Val → State → Option Made
 new_buffer [] s = make (buffer [] None) [] s
-new_buffer (n ∷ []) s = and_then (index_in_lem n) (λ size. make (buffer (zeros size) None) [] s)
+new_buffer (n ∷ []) s = and_then (index_in n) (λ size. make (buffer (zeros size) None) [] s)
 new_buffer (n ∷ o ∷ []) s =
-    and_then (index_in_lem n) (λ size. and_then (and_then (option (codes "maxByteLength") o s) index_in_lem) (λ most. when (nat_le size most) (make (buffer (zeros size) (Some most)) [] s)))
+    and_then (index_in n) (λ size. and_then (and_then (option (codes "maxByteLength") o s) index_in) (λ most. when (nat_le size most) (make (buffer (zeros size) (Some most)) [] s)))
 new_buffer (n ∷ o ∷ x ∷ xs) s = None
 
 abbrev pub message_in : Val → Option (Option Text)
@@ -375,7 +375,7 @@ wrap w (boolean b) s = when (is w (codes "Boolean")) (make (wrapped (boolean b))
 wrap w (number bits) s =
     cond (is w (codes "Number")) (make (wrapped (number bits)) [] s)
     (cond (is w (codes "Date")) (and_then (time_in bits) (λ t. make (date t) [] s))
-    (when (is w (codes "Array")) (and_then (index_in_lem (number bits)) (λ n. when (nat_lt n 4294967296) (make (array n) [] s)))))
+    (when (is w (codes "Array")) (and_then (index_in (number bits)) (λ n. when (nat_lt n 4294967296) (make (array n) [] s)))))
 wrap w (big z) s = when (is w (codes "Object")) (make (wrapped (big z)) [] s)
 wrap w (text t) s =
     cond (is w (codes "String")) (make (wrapped (text t)) [] s)
@@ -420,8 +420,8 @@ part v from to s = when (is_typed v.kind) (view_on v.kind v.on (v.offset + from 
 
 abbrev pub subarray_of : ViewHeld → ℕ → List Val → State → Option Made
 subarray_of v n [] s = part v 0 n s
-subarray_of v n (a ∷ []) s = and_then (index_in_lem a) (λ from. part v (min from n) n s)
-subarray_of v n (a ∷ b ∷ []) s = and_then (index_in_lem a) (λ from. and_then (index_in_lem b) (λ to. part v (min from n) (min to n) s))
+subarray_of v n (a ∷ []) s = and_then (index_in a) (λ from. part v (min from n) n s)
+subarray_of v n (a ∷ b ∷ []) s = and_then (index_in a) (λ from. and_then (index_in b) (λ to. part v (min from n) (min to n) s))
 subarray_of v n (a ∷ b ∷ x ∷ xs) s = None
 
 abbrev pub subarray : Val → List Val → State → Option Made

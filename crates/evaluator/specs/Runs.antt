@@ -3,14 +3,14 @@ use Rattle.std.specs.Prelude.{ℕ, zero, suc, ◌+◌, ◌-◌, ◌*◌, Bool, t
 use Rattle.dump.specs.Heaps.{Text}
 use Rattle.numeral.specs.Digits.{index_of, whole_within, whole_digits, value_from}
 use Rattle.numeral.specs.Numerals.{minus, body, is_numeral, whole_of, whole_bits}
-use Rattle.numeral.specs.Words.{same_units_lem}
+use Rattle.numeral.specs.Words.{same_units}
 use Rattle.evaluator.specs.Options.{and_then, when, or_else}
 use Rattle.evaluator.specs.Characters.{characters}
 use Rattle.evaluator.specs.Tokens.{Token, word, number, string, mark, break, hex_value, tokens}
 use Rattle.evaluator.specs.Trees.{Tree, leaf, node, Trees, nil, cons, trees}
 use Rattle.evaluator.specs.Stores as stores
 use Rattle.evaluator.specs.Stores.{Val, undefined, null, boolean, big, text, ref, Shape, wrapped, regexp, date, ordinary, array, mapping, setting, buffer, view, error, Slot, keyed, pair, single, Obj, Bound, bound, State, start, Made, made, make, lookup, change, place, object_of, has_key, with_key}
-use Rattle.evaluator.specs.Makes.{is, integer, key_in_lem, construct, buffer_of, call}
+use Rattle.evaluator.specs.Makes.{is, integer, key_in, construct, buffer_of, call}
 use Rattle.evaluator.specs.Commands.{name_of, is_proto, is_mark, assigned, Command, binds, assigns, does, gives, command, Ran, ran, solid, is_opening, is_closing, is_return, breaks_first, without_breaks}
 
 -- numbers as they are written
@@ -263,7 +263,7 @@ module _ (reading : List ℕ → Option ℕ) where
     -- a key in braces, or in square brackets there
     pub eval_key : Tree → State → Option Keyed
     eval_key (leaf t) s = leaf_key t s
-    eval_key (node c inner) s = when (c == 91 && not (has_comma inner)) (and_then (eval_list inner nothing [] s) (λ l. and_then (and_then (only_val l.vals) key_in_lem) (λ k. Some (record { key = k; key_state = l.state }))))
+    eval_key (node c inner) s = when (c == 91 && not (has_comma inner)) (and_then (eval_list inner nothing [] s) (λ l. and_then (and_then (only_val l.vals) key_in) (λ k. Some (record { key = k; key_state = l.state }))))
 
     -- keys and values in braces
     pub eval_braces : Trees → Keying → List Slot → State → Option Braced
@@ -282,7 +282,7 @@ module _ (reading : List ℕ → Option ℕ) where
   run_command (binds n e) s =
       and_then (evaluate e s) (λ m. when (not (is_some (lookup m.state.names n))) (ran (record { objects = m.state.objects; names = m.state.names ++ (bound n m.val ∷ []) }) None))
   run_command (assigns n k e) s =
-      and_then (lookup s.names n) (λ target. and_then (evaluate k s) (λ key. and_then (key_in_lem key.val) (λ name. and_then (evaluate e key.state) (λ m.
+      and_then (lookup s.names n) (λ target. and_then (evaluate k s) (λ key. and_then (key_in key.val) (λ name. and_then (evaluate e key.state) (λ m.
       and_then (place target) (λ p. and_then (object_of m.state target) (λ o. and_then (assigned name m.val o.shape o.slots) (λ u. ran (change p u m.state) None)))))))
   run_command (does e) s = and_then (evaluate e s) (λ m. ran m.state None)
   run_command (gives e) s = and_then (evaluate e s) (λ m. ran m.state (Some m.val))

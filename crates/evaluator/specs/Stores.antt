@@ -6,7 +6,7 @@ use Rattle.dump.specs.declared.kinds.ViewKind.{ViewKind}
 use Rattle.dump.specs.declared.kinds.ErrorName.{ErrorName}
 use Rattle.dump.specs.Heaps.{Text}
 use Rattle.numeral.specs.Digits.{index_of}
-use Rattle.numeral.specs.Words.{same_units_lem}
+use Rattle.numeral.specs.Words.{same_units}
 use Rattle.evaluator.specs.Options.{and_then, nth}
 
 -- a reference is a place in the store
@@ -91,7 +91,7 @@ object_of s v = and_then (place v) (nth s.objects)
 
 -- property lists: indexes ascending first, then texts as they were added
 abbrev pub key_is : Text → Slot → Bool
-key_is k (keyed l v) = same_units_lem k l
+key_is k (keyed l v) = same_units k l
 key_is k (pair v w) = false
 key_is k (single v) = false
 
@@ -103,9 +103,9 @@ abbrev pub set_key : Text → Val → List Slot → List Slot
 set_key k v [] = []
 set_key k v (s ∷ ss) = cond (key_is k s) (keyed k v) s ∷ set_key k v ss
 
-abbrev pub index_below_lem : ℕ → Option ℕ → Bool
-index_below_lem i None = false
-index_below_lem i (Some j) = nat_lt j i
+abbrev pub index_below : ℕ → Option ℕ → Bool
+index_below i None = false
+index_below i (Some j) = nat_lt j i
 
 abbrev pub slot_index : Slot → Option ℕ
 slot_index (keyed k v) = index_of k
@@ -115,7 +115,7 @@ slot_index (single v) = None
 -- before the first slot whose index is not below i
 abbrev pub insert_index : ℕ → Slot → List Slot → List Slot
 insert_index i new [] = new ∷ []
-insert_index i new (s ∷ ss) = cond (index_below_lem i (slot_index s)) (s ∷ insert_index i new ss) (new ∷ s ∷ ss)
+insert_index i new (s ∷ ss) = cond (index_below i (slot_index s)) (s ∷ insert_index i new ss) (new ∷ s ∷ ss)
 
 abbrev pub add_key : Option ℕ → Slot → List Slot → List Slot
 add_key None new ss = ss ++ (new ∷ [])
@@ -179,7 +179,7 @@ same_zero (text a) null = false
 same_zero (text a) (boolean b) = false
 same_zero (text a) (number n) = false
 same_zero (text a) (big z) = false
-same_zero (text a) (text b) = same_units_lem a b
+same_zero (text a) (text b) = same_units a b
 same_zero (text a) (ref n) = false
 same_zero (ref a) undefined = false
 same_zero (ref a) null = false

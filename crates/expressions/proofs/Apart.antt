@@ -1,5 +1,5 @@
 -- Keys that differ by SameValueZero: each is added at the end of a Map or a Set.
-use Rattle.std.proofs.Common.{◌≡◌, ℕ, false, List, [], ◌∷◌, ◌++◌, sym, refl, ap, ◌∙◌, subst, append_assoc, append_nil, arith}
+use Rattle.std.proofs.Common.{◌≡◌, ℕ, false, List, [], ◌∷◌, ◌++◌, sym, refl, ap, ◌∙◌, subst, append_assoc, append-nil, arith}
 use Rattle.std.specs.List.{AllByRecursion as All}
 use Rattle.std.proofs.lemmas.Bool.{cond-false, or_from, or_parts}
 use Rattle.dump.specs.Heaps.{Value, Part, entry, member}
@@ -68,7 +68,7 @@ module _ (own : Pairing) (n : ℕ) where
 
   -- all members one by one
   members_behind : (ps : List Part) (ws : List Val) (ss : List Slot) → All (MemberFormed n) ps → Pairwise MemberApart ps → AlikeParts own 0 ps (singles ws) → MembersAway ss ps → members ws ss ≡ ss ++ singles ws
-  members_behind [] [] ss f b a c = sym (append_nil ss)
+  members_behind [] [] ss f b a c = sym (append-nil ss)
   members_behind [] (w ∷ ws) ss f b a c = absurd (apart_slots a)
   members_behind (p ∷ ps) [] ss f b a c = absurd (on_member (λ q. AlikeParts own 0 (q ∷ ps) [] → ⊥) n (λ v k x. apart_slots (sym x.2)) p f.0 a)
   members_behind (p ∷ ps) (w ∷ ws) ss f b a c =
@@ -104,7 +104,7 @@ module _ (own : Pairing) (n : ℕ) where
 
   -- all entries one by one
   entries_behind : (ps : List Part) (us ss : List Slot) → All (EntryFormed n) ps → Pairwise EntryApart ps → AlikeParts own 0 ps us → EntriesAway ss ps → map_from us ss ≡ ss ++ us
-  entries_behind [] us ss f b a c = ap (λ z. map_from z ss) a ∙ (sym (append_nil ss) ∙ ap (λ z. ss ++ z) (sym a))
+  entries_behind [] us ss f b a c = ap (λ z. map_from z ss) a ∙ (sym (append-nil ss) ∙ ap (λ z. ss ++ z) (sym a))
   entries_behind (p ∷ ps) us ss f b a c =
       on_entry (λ q. All (EntryApart q) ps → AlikeParts own 0 (q ∷ ps) us → ((k v : Value) → q ≡ entry k v → Away ss k) → map_from us ss ≡ ss ++ us) n
       (λ k v x r y s z.

@@ -1,5 +1,5 @@
 -- Objects by kind: wrapped values, dates and patterns, plain objects and arrays evaluate.
-use Rattle.std.proofs.Common.{◌≡◌, ℕ, suc, ◌+◌, ◌<◌, ◌≤◌, Bool, true, false, cond, not, ◌&&◌, ◌||◌, ltb, ◌⊎◌, List, [], ◌∷◌, ◌++◌, length, take, drop, Some, None, Option, sym, refl, ap, ◌∙◌, subst, inl, inr, ⊎_elim, append_assoc, append_nil, arith, length-take, ltb-true}
+use Rattle.std.proofs.Common.{◌≡◌, ℕ, suc, ◌+◌, ◌<◌, ◌≤◌, Bool, true, false, cond, not, ◌&&◌, ◌||◌, ltb, ◌⊎◌, List, [], ◌∷◌, ◌++◌, length, take, drop, Some, None, Option, sym, refl, ap, ◌∙◌, subst, inl, inr, ⊎_elim, append_assoc, append-nil, arith, length-take, ltb-true}
 use Rattle.std.specs.List.{AllByRecursion as All}
 use Rattle.std.proofs.lemmas.Bool.{cases_Bool, or_cases, both_ways}
 use Rattle.dump.specs.Heaps as heaps
@@ -146,7 +146,7 @@ module _ (h : Heap) (f : Formed h) (order : List ℕ) (ad : Adequate h order) (x
           record {
             first = element_slots 0 g.vals;
             rest = [];
-            slots = sym (append_nil (element_slots 0 g.vals));
+            slots = sym (append-nil (element_slots 0 g.vals));
             elements = subst (λ z. Elements z x (es ++ qs) 0 (take n ps) (element_slots 0 g.vals)) (append_assoc own g.adds (Some x ∷ [])) (elements_ext (own ++ g.adds) ((own ++ g.adds) ++ (Some x ∷ [])) (ext_append (own ++ g.adds) (Some x ∷ [])) x (es ++ qs) g.says);
             properties = record {
               front = [];

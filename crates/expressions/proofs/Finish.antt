@@ -1,5 +1,5 @@
 -- The last step of an object's expression: the object itself, behind all that hangs in it.
-use Rattle.std.proofs.Common.{◌≡◌, ℕ, ◌+◌, List, [], ◌∷◌, ◌++◌, length, Some, None, sym, refl, ap, ◌∙◌, subst, append_assoc, append_nil, arith}
+use Rattle.std.proofs.Common.{◌≡◌, ℕ, ◌+◌, List, [], ◌∷◌, ◌++◌, length, Some, None, sym, refl, ap, ◌∙◌, subst, append_assoc, append-nil, arith}
 use Rattle.dump.specs.Heaps.{object, Heap}
 use Rattle.script.specs.Syntax.{Expr}
 use Rattle.planner.specs.Visits.{object_at}

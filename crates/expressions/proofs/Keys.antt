@@ -4,10 +4,10 @@ use Rattle.std.proofs.lemmas.Bool.{cases_Bool, and_parts, or_from, both_ways}
 use Rattle.std.proofs.lemmas.Fmt.{decimal_injective}
 use Rattle.dump.specs.Heaps.{Text, Key, index, name}
 use Rattle.numeral.specs.Digits.{index_of}
-use Rattle.numeral.specs.Words.{same_units_lem}
+use Rattle.numeral.specs.Words.{same_units}
 use Rattle.formed.specs.Formed.{KeyFormed, KeyBefore}
 use Rattle.evaluator.specs.Stores as stores
-use Rattle.evaluator.specs.Stores.{Val, Slot, keyed, pair, single, has_key, key_is, with_key, add_key, insert_index, index_below_lem, slot_index}
+use Rattle.evaluator.specs.Stores.{Val, Slot, keyed, pair, single, has_key, key_is, with_key, add_key, insert_index, index_below, slot_index}
 use Rattle.evaluator.specs.Isomorphic.{key_text}
 use Rattle.leaves.proofs.Numbers.{decimal_within}
 
@@ -21,11 +21,11 @@ pub data Behind (k : Key) : List Slot → Type 0 where
   b_end : Behind k []
   b_key : (j : Key) {w : Val} {ss : List Slot} → KeyBefore j k → Kept j → Behind k ss → Behind k (keyed (key_text j) w ∷ ss)
 
-pub same_units_lem : (a b : Text) → same_units_lem a b ≡ true → a ≡ b
+pub same_units_lem : (a b : Text) → same_units a b ≡ true → a ≡ b
 same_units_lem [] [] e = refl
 same_units_lem [] (y ∷ b) e = absurd (both_ways false refl e)
 same_units_lem (x ∷ a) [] e = absurd (both_ways false refl e)
-same_units_lem (x ∷ a) (y ∷ b) e = let p = and_parts (eqb x y) (same_units_lem a b) e in let q = eqb-true x y p.0 in let r = same_units_lem a b p.1 in cc
+same_units_lem (x ∷ a) (y ∷ b) e = let p = and_parts (eqb x y) (same_units a b) e in let q = eqb-true x y p.0 in let r = same_units_lem a b p.1 in cc
 
 none_not_some : {A : Type 0} (a : A) → ◌≡◌ {A = Option A} None (Some a) → ⊥
 none_not_some a e = let z : ◌≡◌ {A = ℕ} 0 1 = cc in omega arith
@@ -40,18 +40,18 @@ keys_apart (index i) (name t) b j k e = none_not_some i (sym k ∙ (ap index_of 
 keys_apart (name t) (index l) b j k e = elim b [ ]
 keys_apart (name t) (name u) b j k e = b (sym e)
 
-not_key : (j k : Key) → KeyBefore j k → Kept j → Kept k → same_units_lem (key_text k) (key_text j) ≡ false
-not_key j k b x y = ⊎_elim (λ (t : same_units_lem (key_text k) (key_text j) ≡ true). absurd (keys_apart j k b x y (same_units_lem (key_text k) (key_text j) t))) (λ n. n) (cases_Bool (same_units_lem (key_text k) (key_text j)))
+not_key : (j k : Key) → KeyBefore j k → Kept j → Kept k → same_units (key_text k) (key_text j) ≡ false
+not_key j k b x y = ⊎_elim (λ (t : same_units (key_text k) (key_text j) ≡ true). absurd (keys_apart j k b x y (same_units_lem (key_text k) (key_text j) t))) (λ n. n) (cases_Bool (same_units (key_text k) (key_text j)))
 
 pub no_key : (k : Key) (ss : List Slot) → Kept k → Behind k ss → has_key (key_text k) ss ≡ false
 no_key k [] y b_end = refl
-no_key k (_ ∷ ss) y (b_key j b x r) = or_from (same_units_lem (key_text k) (key_text j)) (has_key (key_text k) ss) (not_key j k b x y) (no_key k ss y r)
+no_key k (_ ∷ ss) y (b_key j b x r) = or_from (same_units (key_text k) (key_text j)) (has_key (key_text k) ss) (not_key j k b x y) (no_key k ss y r)
 
 -- an index behind all indexes is inserted at the end
 at_end : (i : ℕ) (new : Slot) (ss : List Slot) → i < 4294967295 → Behind (index i) ss → insert_index i new ss ≡ ss ++ (new ∷ [])
 at_end i new [] y b_end = refl
 at_end i new (_ ∷ ss) y (b_key (index l) {w = w} b x r) =
-    let e : index_below_lem i (slot_index (keyed (decimal l) w)) ≡ true = ap (index_below_lem i) (index_kept l x) ∙ lt-ltb l i b in
+    let e : index_below i (slot_index (keyed (decimal l) w)) ≡ true = ap (index_below i) (index_kept l x) ∙ lt-ltb l i b in
     ap (λ z. cond z (keyed (decimal l) w ∷ insert_index i new ss) (new ∷ keyed (decimal l) w ∷ ss)) e ∙ ap (λ z. keyed (decimal l) w ∷ z) (at_end i new ss y r)
 at_end i new (_ ∷ ss) y (b_key (name t) b x r) = elim b [ ]
 

@@ -4,10 +4,10 @@ use Rattle.std.proofs.lemmas.Bool.{cases_Bool, le-leb, eqb-true}
 use Rattle.dump.specs.declared.kinds.ViewKind.{ViewKind}
 use Rattle.dump.specs.declared.kinds.ViewKind.TheVariants.{Int8Array, Uint8Array, Uint8ClampedArray, Int16Array, Uint16Array, Int32Array, Uint32Array, Float32Array, Float64Array, BigInt64Array, BigUint64Array, DataView}
 use Rattle.dump.specs.Kinds.{width, view_kind, view_number}
-use Rattle.planner.specs.Names.{viewed}
+use Rattle.planner.specs.Names.{is_view}
 use Rattle.evaluator.specs.Options.{and_then, when, nth}
 use Rattle.evaluator.specs.Stores.{Val, ref, buffer, view, single, Obj, State, make}
-use Rattle.evaluator.specs.Makes.{ViewHeld, width_of, is_typed, index_in_lem, buffer_in, view_held, buffer_at, view_at, place_view_lem, view_on, count_in, part, subarray_of, subarray}
+use Rattle.evaluator.specs.Makes.{ViewHeld, width_of, is_typed, index_in, buffer_in, view_held, buffer_at, view_at, place_view, view_on, count_in, part, subarray_of, subarray}
 use Rattle.effects.specs.Effects.{count, offset_of}
 use Rattle.leaves.proofs.Wholes.{index_in_lem}
 
@@ -26,7 +26,7 @@ width_is BigInt64Array = refl
 width_is BigUint64Array = refl
 width_is DataView = refl
 
-pub typed_is : (k : ViewKind) → is_typed k ≡ viewed k
+pub typed_is : (k : ViewKind) → is_typed k ≡ is_view k
 typed_is Int8Array = refl
 typed_is Uint8Array = refl
 typed_is Uint8ClampedArray = refl
@@ -96,7 +96,7 @@ pub data Counts (k : ViewKind) (offset n : ℕ) (tracking : Bool) (size : ℕ) (
 -- on a buffer of that size a view is made
 pub placed : (k : ViewKind) (offset n : ℕ) (tracking : Bool) (on : Val) (held : List ℕ) (maximum c : Option ℕ) (s : State) →
     offset % width k ≡ 0 → offset + n * width k ≤ length held → Counts k offset n tracking (length held) maximum c →
-    place_view_lem k on offset c (record { bytes = held; maximum = maximum }) s ≡ make (view k offset (cond tracking None (Some n))) (single on ∷ []) s
+    place_view k on offset c (record { bytes = held; maximum = maximum }) s ≡ make (view k offset (cond tracking None (Some n))) (single on ∷ []) s
 placed k offset n tracking on held maximum (Some m) s a i (given t) = simp (t, width_is k, a, le-leb (offset + n * width k) (length held) i)
 placed k offset n tracking on held maximum None s a i (to_end_lem t f ev e) = simp (t, width_is k, a, f, ev, le-leb offset (length held) (omega arith), elements_of k n (length held - offset) (omega arith))
 placed k offset n tracking on held maximum None s a i (tracks t f) = simp (t, width_is k, a, f, le-leb offset (length held) (omega arith))
@@ -119,7 +119,7 @@ cut w start end size vs s a b small (from d) =
     ap (λ o. and_then o (λ f. part w (min f size) size s)) (index_in_lem start (omega arith))
     ∙ (let m : min start size ≡ start = omega arith in simp (m, d))
 cut w start end size vs s a b small both =
-    ap (λ o. and_then o (λ f. and_then (index_in_lem (count end)) (λ t. part w (min f size) (min t size) s))) (index_in_lem start (omega arith))
+    ap (λ o. and_then o (λ f. and_then (index_in (count end)) (λ t. part w (min f size) (min t size) s))) (index_in_lem start (omega arith))
     ∙ ap (λ o. and_then o (λ t. part w (min start size) (min t size) s)) (index_in_lem end (omega arith))
     ∙ (let m : min start size ≡ start = omega arith in let n : min end size ≡ end = omega arith in simp (m, n))
 
@@ -127,7 +127,7 @@ cut w start end size vs s a b small both =
 pub parted : (k : ViewKind) (offset n size : ℕ) (p q : ℕ) (v b : Obj) (held : List ℕ) (maximum : Option ℕ) (vs : List Val) (s : State) →
     nth s.objects p ≡ Some v → v.shape ≡ view k 0 (Some size) → v.slots ≡ single (ref q) ∷ [] →
     nth s.objects q ≡ Some b → b.shape ≡ buffer held maximum → length held ≤ 9007199254740991 → size * width k ≡ length held →
-    viewed k ≡ true → offset % width k ≡ 0 → offset + n * width k ≤ length held → Bounds (offset / width k) (offset / width k + n) size vs →
+    is_view k ≡ true → offset % width k ≡ 0 → offset + n * width k ≤ length held → Bounds (offset / width k) (offset / width k + n) size vs →
     subarray (ref p) vs s ≡ make (view k offset (Some n)) (single (ref q) ∷ []) s
 parted k offset n size p q v b held maximum vs s pv shape slots qb bshape small whole typed aligned inside bounds =
     let w : ViewHeld = record { kind = k; offset = 0; count = Some size; on = ref q } in
@@ -142,5 +142,5 @@ parted k offset n size p q v b held maximum vs s pv shape slots qb bshape small 
     ∙ cut w (offset / width k) (offset / width k + n) size vs s (omega arith) end few bounds
     ∙ ap (λ t. when t (view_on k (ref q) (0 + offset / width k * width_of k) (Some (offset / width k + n - offset / width k)) s)) (typed_is k ∙ typed)
     ∙ (λ i. view_on k (ref q) (start i) (Some (many i)) s)
-    ∙ ap (λ o. and_then o (λ b. place_view_lem k (ref q) offset (Some n) b s)) (buffer_at_lem s q b held maximum qb bshape)
+    ∙ ap (λ o. and_then o (λ b. place_view k (ref q) offset (Some n) b s)) (buffer_at_lem s q b held maximum qb bshape)
     ∙ placed k offset n false (ref q) held maximum (Some n) s aligned inside (given refl)

@@ -1,5 +1,5 @@
 -- The name of an object, or that of its backing view with `.buffer` behind it, evaluates to what stands for the object, and makes nothing.
-use Rattle.std.proofs.Common.{◌≡◌, ℕ, ◌<◌, true, false, cond, ◌⊎◌, List, [], is_some, Some, None, sym, refl, ap, ◌∙◌, subst, ⊎_elim, append_nil, arith}
+use Rattle.std.proofs.Common.{◌≡◌, ℕ, ◌<◌, true, false, cond, ◌⊎◌, List, [], is_some, Some, None, sym, refl, ap, ◌∙◌, subst, ⊎_elim, append-nil, arith}
 use Rattle.dump.specs.Heaps.{object, Heap}
 use Rattle.formed.specs.Formed.{Formed}
 use Rattle.script.specs.Syntax.{form, named, buffer_of_named}
@@ -24,7 +24,7 @@ use Rattle.expressions.proofs.Makes.{view_at_lem}
 
 -- nothing more in the store
 pub grown_none : (s : State) → grown s [] ≡ s
-grown_none s = ap (λ xs. record { objects = xs; names = s.names }) (append_nil s.objects)
+grown_none s = ap (λ xs. record { objects = xs; names = s.names }) (append-nil s.objects)
 
 module _ (h : Heap) (f : Formed h) (order : List ℕ) (ad : Adequate h order) (own : Pairing) (left : ℕ → List Late) (s : State) (t : ℕ) (names : Names h order own t s.names) (store : Store h own left own s.objects) where
   -- the name of a backing view stands for it, and for its buffer
@@ -92,6 +92,6 @@ module _ (h : Heap) (f : Formed h) (order : List ℕ) (ad : Adequate h order) (o
         val = ref g.0;
         runs = g.1 ∙ ap (made (ref g.0)) (sym (grown_none s));
         objects = a_nil;
-        says = (g.0, refl, subst (λ ps. nth ps g.0 ≡ Some (Some x)) (sym (append_nil own)) g.2);
+        says = (g.0, refl, subst (λ ps. nth ps g.0 ≡ Some (Some x)) (sym (append-nil own)) g.2);
         counts = λ y. refl;
       }

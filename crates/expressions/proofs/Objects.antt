@@ -1,5 +1,5 @@
 -- Sets, Maps and Errors: the expression of one makes it, with all that hangs in it, but for what is left to do.
-use Rattle.std.proofs.Common.{◌≡◌, ℕ, ◌+◌, ◌≤◌, Bool, true, false, cond, ◌⊎◌, List, [], ◌∷◌, ◌++◌, length, Some, None, codes, Option, sym, refl, ap, ◌∙◌, subst, inl, inr, ⊎_elim, append_assoc, append_nil, arith}
+use Rattle.std.proofs.Common.{◌≡◌, ℕ, ◌+◌, ◌≤◌, Bool, true, false, cond, ◌⊎◌, List, [], ◌∷◌, ◌++◌, length, Some, None, codes, Option, sym, refl, ap, ◌∙◌, subst, inl, inr, ⊎_elim, append_assoc, append-nil, arith}
 use Rattle.std.proofs.lemmas.Bool.{cases_Bool, cond-true, cond-false}
 use Rattle.dump.specs.declared.kinds.ErrorName.{ErrorName}
 use Rattle.dump.specs.Heaps as heaps
@@ -131,7 +131,7 @@ module _ (h : Heap) (f : Formed h) (order : List ℕ) (ad : Adequate h order) (b
 
     -- the references of a cause, if it is ready
     cause_written : (v : Value) (b : Bool) → ready_before h order T v ≡ b → written_parts h order T (cause v ∷ []) ≡ cond b (refs v) []
-    cause_written v b e = append_nil (cond (ready_before h order T v) (refs v) []) ∙ ap (λ z. cond z (refs v) []) e
+    cause_written v b e = append-nil (cond (ready_before h order T v) (refs v) []) ∙ ap (λ z. cond z (refs v) []) e
 
     -- an error without a cause, with one that is ready, and with one that is not
     error_bare : (own : Pairing) (s : State) → Whole h order x own s (heaps.error m message stack) []

@@ -10,7 +10,7 @@ use Rattle.planner.specs.Builds as builds
 use Rattle.planner.specs.Lates.{Late, lates}
 use Rattle.evaluator.specs.Options.{and_then, nth}
 use Rattle.evaluator.specs.Stores.{ref, view, single, Obj, State, made, make}
-use Rattle.evaluator.specs.Makes.{place_view_lem, view_on}
+use Rattle.evaluator.specs.Makes.{place_view, view_on}
 use Rattle.evaluator.specs.Isomorphic.{Pairing}
 use Rattle.effects.specs.Effects.{grown, offset_of, expr_made}
 use Rattle.rebuilds.specs.Makes.{one}
@@ -62,6 +62,6 @@ module _ (h : Heap) (order : List ℕ) (own : Pairing) (s : State) (len : length
       (ap (λ o. and_then o (λ m. view_on k m.val (offset_of (cond (eqb offset 0 && not (is_some c)) None (Some offset))) c m.state)) g.runs
       ∙ ap (λ p. view_on k g.val p c (grown s g.new)) (offset_is offset c)
       ∙ ap (λ v. view_on k v offset c (grown s g.new)) g.says.1
-      ∙ ap (λ o. and_then o (λ m. place_view_lem k (ref q) offset c m (grown s g.new))) (buffer_at_lem (grown s g.new) q at.0 z.held maximum at.1 z.shape)
+      ∙ ap (λ o. and_then o (λ m. place_view k (ref q) offset c m (grown s g.new))) (buffer_at_lem (grown s g.new) q at.0 z.held maximum at.1 z.shape)
       ∙ placed k offset n tracking (ref q) z.held maximum c (grown s g.new) aligned (omega arith) (subst (λ l. Counts k offset n tracking l maximum c) (sym size) counts))
       g.counts

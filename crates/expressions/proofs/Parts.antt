@@ -1,5 +1,5 @@
 -- A part of a typed array, of one with data of its own or of a backing view, stands for a view on its buffer.
-use Rattle.std.proofs.Common.{◌≡◌, ℕ, ◌+◌, ◌*◌, ◌/◌, ◌%◌, ◌<◌, ◌≤◌, Bool, true, false, cond, eqb, List, [], ◌∷◌, ◌++◌, length, Some, None, Option, sym, refl, ap, ◌∙◌, append_nil, add-mul, arith}
+use Rattle.std.proofs.Common.{◌≡◌, ℕ, ◌+◌, ◌*◌, ◌/◌, ◌%◌, ◌<◌, ◌≤◌, Bool, true, false, cond, eqb, List, [], ◌∷◌, ◌++◌, length, Some, None, Option, sym, refl, ap, ◌∙◌, append-nil, add-mul, arith}
 use Rattle.std.proofs.lemmas.Bool.{eqb-true}
 use Rattle.dump.specs.declared.kinds.ViewKind.{ViewKind}
 use Rattle.dump.specs.Heaps as heaps
@@ -9,7 +9,7 @@ use Rattle.formed.specs.Formed.{Formed}
 use Rattle.script.specs.Syntax as syntax
 use Rattle.script.specs.Syntax.{form, typed_part}
 use Rattle.planner.specs.Visits.{object_at}
-use Rattle.planner.specs.Names.{viewed, pos, slot}
+use Rattle.planner.specs.Names.{is_view, pos, slot}
 use Rattle.planner.specs.Builds as builds
 use Rattle.planner.specs.Lates.{Late, lates}
 use Rattle.evaluator.specs.Options.{and_then, nth}
@@ -45,7 +45,7 @@ module _ (s : State) (w : ℕ) (v : Val) (start end size : ℕ) (out : Option Ma
 
 module _ (h : Heap) (f : Formed h) (order : List ℕ) (own : Pairing) (s : State) (x b : ℕ) (k : ViewKind) (offset n : ℕ) (bytes : List ℕ)
     (viewed : (object_at h x).kind ≡ heaps.view k offset n false) (on : (object_at h x).parts ≡ below b ∷ []) (is_buffer : (object_at h b).kind ≡ heaps.buffer bytes None)
-    (typed-array : viewed k ≡ true) (aligned : offset % width k ≡ 0) (even : length bytes % width k ≡ 0) (inside : offset + n * width k ≤ length bytes) where
+    (typed-array : is_view k ≡ true) (aligned : offset % width k ≡ 0) (even : length bytes % width k ≡ 0) (inside : offset + n * width k ≤ length bytes) where
   -- the bytes of a buffer are few
   few : length bytes ≤ 9007199254740991
   few = let a = (kind_formed h f b (heaps.buffer bytes None) is_buffer).2 in omega arith
@@ -86,5 +86,5 @@ module _ (h : Heap) (f : Formed h) (order : List ℕ) (own : Pairing) (s : State
       (λ r. let reach = eqb-true (offset + n * width k) (length bytes) r in sym (elements_of k (start + n) (length bytes) (add-mul start n (width k) ∙ omega arith)) ∙ elements_of k a.n (length bytes) whole) in
       let e = builds.subarray_of (slot h order w) start (start + n) (eqb (offset + n * width k) (length bytes)) in
       recount h order own s e (object x) (λ y. 0 + one y x) (λ y. one y x) (λ y. omega arith)
-      (push_view h order own s (all2_length store) x b k offset n false viewed on [] [] v.on e (λ y. 0) a_nil (ap (λ ps. nth ps v.on) (append_nil own) ∙ v.stands)
+      (push_view h order own s (all2_length store) x b k offset n false viewed on [] [] v.on e (λ y. 0) a_nil (ap (λ ps. nth ps v.on) (append-nil own) ∙ v.stands)
       (runs ∙ ap (make (view k offset (Some n)) (single (ref v.on) ∷ [])) (sym (grown_none s))) (λ y. refl))

@@ -1,5 +1,5 @@
 -- Plain values: a value that is no object and no hole evaluates to what is alike to it.
-use Rattle.std.proofs.Common.{◌≡◌, ℕ, ◌+◌, ◌*◌, ◌/◌, ◌%◌, ◌^◌, ◌<◌, ◌≤◌, Bool, true, false, cond, not, ◌&&◌, ◌||◌, eqb, ◌⊎◌, List, [], ◌∷◌, ◌++◌, Some, None, Option, sym, refl, ap, ◌∙◌, inl, inr, ⊎_elim, append_nil, arith, eq-eqb, ne_eqb, eqb-true}
+use Rattle.std.proofs.Common.{◌≡◌, ℕ, ◌+◌, ◌*◌, ◌/◌, ◌%◌, ◌^◌, ◌<◌, ◌≤◌, Bool, true, false, cond, not, ◌&&◌, ◌||◌, eqb, ◌⊎◌, List, [], ◌∷◌, ◌++◌, Some, None, Option, sym, refl, ap, ◌∙◌, inl, inr, ⊎_elim, append-nil, arith, eq-eqb, ne_eqb, eqb-true}
 use borrow.Author.Tests.{eqb-false}
 use Rattle.std.proofs.lemmas.Bool.{cases_Bool, or_left, or_right, both_ways}
 use Rattle.dump.specs.Heaps as heaps
@@ -11,7 +11,7 @@ use Rattle.evaluator.specs.Isomorphic.{Pairing, Alike, AlikeNumber, is_nan, same
 use Rattle.effects.specs.Effects.{canonical, plain_val, grown}
 
 pub grown_nil : (s : State) → grown s [] ≡ s
-grown_nil s = ap (λ xs. record { objects = xs; names = s.names }) (append_nil s.objects)
+grown_nil s = ap (λ xs. record { objects = xs; names = s.names }) (append-nil s.objects)
 
 same_self : (a : ℕ) → same_value a a ≡ true
 same_self a = or_left (eqb a a) (is_nan a && is_nan a) (eq-eqb a a refl)

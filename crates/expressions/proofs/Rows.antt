@@ -1,5 +1,5 @@
 -- Rows in braces and brackets: each property and each element is there, or a placeholder where it is not ready.
-use Rattle.std.proofs.Common.{◌≡◌, ℕ, suc, ◌+◌, ◌<◌, ◌≤◌, Bool, true, false, cond, not, ◌&&◌, eqb, ◌⊎◌, List, [], ◌∷◌, ◌++◌, length, get_or, is_some, Some, None, decimal, Option, sym, refl, ap, ◌∙◌, subst, inl, inr, ⊎_elim, append_assoc, append_nil, arith, eqb-true}
+use Rattle.std.proofs.Common.{◌≡◌, ℕ, suc, ◌+◌, ◌<◌, ◌≤◌, Bool, true, false, cond, not, ◌&&◌, eqb, ◌⊎◌, List, [], ◌∷◌, ◌++◌, length, get_or, is_some, Some, None, decimal, Option, sym, refl, ap, ◌∙◌, subst, inl, inr, ⊎_elim, append_assoc, append-nil, arith, eqb-true}
 use Rattle.std.specs.List.{AllByRecursion as All}
 use Rattle.std.proofs.lemmas.Bool.{cases_Bool, cond-true, cond-false, both_ways, or_cases}
 use Rattle.dump.specs.Heaps as heaps
@@ -160,7 +160,7 @@ module _ (h : Heap) (f : Formed h) (order : List ℕ) (ad : Adequate h order) (b
   pub keys_good : (own : Pairing) (s : State) → Ready h order own t s → (ss : List Slot) (ps : List Part) (limit : ℕ) → limit ≤ 4294967295 → All (PropertyFormed (length h.objects) limit false) ps → Pairwise PropertyBefore ps → AllBehind ss ps
       → ((l : Late) → In l (late_properties h order false x T ps) → In l ls) → AllHeld (edges_of ps) → Fresh own (λ y. count y (within h order (written_parts h order T ps))) → KeysGood own s ss ps
   keys_good own s r ss [] limit le w b a sub held fresh =
-      record { adds = []; state = s; slots = []; runs = ap (λ z. Some (record { slots = z; state = s })) (sym (append_nil ss)); step = step_nil h order own s; says = p_end; counts = λ y. refl }
+      record { adds = []; state = s; slots = []; runs = ap (λ z. Some (record { slots = z; state = s })) (sym (append-nil ss)); step = step_nil h order own s; says = p_end; counts = λ y. refl }
   keys_good own s r ss (property k v ∷ ps) limit le w b a sub held fresh =
       let pf = property_formed (length h.objects) limit false k v w.0 in
       let kp = kept limit false k le pf.0 in

@@ -1,5 +1,5 @@
 -- Values: what is plain stands as it is, an object with a name by its name, and any other by its own expression.
-use Rattle.std.proofs.Common.{◌≡◌, ℕ, ◌+◌, ◌<◌, ◌≤◌, Bool, true, false, cond, ◌⊎◌, List, [], ◌∷◌, ◌++◌, length, get_or, Some, None, Option, sym, refl, ap, ◌∙◌, subst, inl, inr, ⊎_elim, append_nil, arith}
+use Rattle.std.proofs.Common.{◌≡◌, ℕ, ◌+◌, ◌<◌, ◌≤◌, Bool, true, false, cond, ◌⊎◌, List, [], ◌∷◌, ◌++◌, length, get_or, Some, None, Option, sym, refl, ap, ◌∙◌, subst, inl, inr, ⊎_elim, append-nil, arith}
 use Rattle.std.proofs.lemmas.Bool.{cases_Bool, cond-true, cond-false}
 use Rattle.dump.specs.Heaps as heaps
 use Rattle.dump.specs.Heaps.{Value, object, Heap}
@@ -34,7 +34,7 @@ module _ (h : Heap) (order : List ℕ) where
   -- an expression that makes nothing
   pub good_still : (own : Pairing) (s : State) (e : Expr) (v : Value) (w : Val) (m : ℕ → ℕ) → expr_made e s ≡ made w s → Alike own v w → ((y : ℕ) → m y ≡ 0) → Good h order own s e v m
   good_still own s e v w m r a z =
-      record { new = []; adds = []; val = w; runs = r ∙ ap (made w) (sym (grown_nil s)); objects = a_nil; says = subst (λ o. Alike o v w) (sym (append_nil own)) a; counts = λ y. sym (z y) }
+      record { new = []; adds = []; val = w; runs = r ∙ ap (made w) (sym (grown_nil s)); objects = a_nil; says = subst (λ o. Alike o v w) (sym (append-nil own)) a; counts = λ y. sym (z y) }
 
   -- of a reference that is written before the name t is bound, inside an object at the place n: it is bound before, or its object stands at a smaller place
   pub record Held (n t j : ℕ) : Type 0 where

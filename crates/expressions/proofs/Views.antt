@@ -8,7 +8,7 @@ use Rattle.dump.specs.Kinds.{width}
 use Rattle.formed.specs.Formed.{ViewFormed, Formed}
 use Rattle.script.specs.Syntax.{Expr, form, circular, new_typed, typed_part, item, none}
 use Rattle.planner.specs.Visits.{object_at, mem}
-use Rattle.planner.specs.Names.{count, viewed, view_in_lem, kind_needs_name, pos, turns, uses, inlines, covers, backing, backed, slot, has_name}
+use Rattle.planner.specs.Names.{count, is_view, view_in, kind_needs_name, pos, turns, uses, inlines, covers, backing, backed, slot, has_name}
 use Rattle.planner.specs.Builds.{view_on, subarray_of, name_expr, same_kind, on_named, buffer_expr, kind_expr, object_expr, built}
 use Rattle.planner.specs.Lates.{Late}
 use Rattle.evaluator.specs.Stores.{State}
@@ -101,14 +101,14 @@ module _ (h : Heap) (f : Formed h) (order : List ℕ) (ad : Adequate h order) (o
         let apart : eqb x w ≡ false = ne_eqb x w (λ same. none_some (sym unbacked ∙ ap (backed h order) same ∙ a.backed)) in
         let by = view_on k offset (cond (eqb (offset + n * width k) (length bytes)) None (Some n)) (item (name_expr h order b) none) in
         let sub = subarray_of (slot h order w) (offset / width k) (offset / width k + n) (eqb (offset + n * width k) (length bytes)) in
-        let kinds = same_kind h order k (view_in_lem (object_at h w).kind) in
+        let kinds = same_kind h order k (view_in (object_at h w).kind) in
         subst (Evaluates x) (sym (cond-false (eqb x w) (form (new_typed k bytes)) (cond kinds sub by) apart))
         (cond_both kinds sub by (Evaluates x)
         (λ e.
-        let same : k ≡ a.kind = kind_same k a.kind (sym (ap (λ z. same_kind h order k (view_in_lem z)) a.view_is) ∙ e) in
+        let same : k ≡ a.kind = kind_same k a.kind (sym (ap (λ z. same_kind h order k (view_in z)) a.view_is) ∙ e) in
         recount h order own s sub (object x) (λ y. one y x) (expr_makes h order x)
         (λ y. let m = named_makes h f order ad x b k offset n false bytes None viewed on is_buffer here a.named_buffer y in omega arith)
-        (sub_good h f order own s x b k offset n bytes viewed on is_buffer (ap viewed same ∙ a.typed) aligned even inside ad left t names store w a (sym same) (omega arith)))
+        (sub_good h f order own s x b k offset n bytes viewed on is_buffer (ap is_view same ∙ a.typed) aligned even inside ad left t names store w a (sym same) (omega arith)))
         (λ e. by_name a.named_buffer))
 
     by_named : inlines h order b ≡ false → Evaluates x (object_expr h order (built h order) x)
@@ -147,8 +147,8 @@ module _ (h : Heap) (f : Formed h) (order : List ℕ) (ad : Adequate h order) (o
         recount h order own s (object_expr h order (built h order) x) (object x) (λ y. one y b + one y x) (expr_makes h order x)
         (inlined_makes h f order ad x b k offset n false bytes None viewed on is_buffer here none_named)
         (subst P (sym (inlined_expr h order (built h order) x b k offset n false viewed on bytes is_buffer i))
-        (cond_both (covers h order b x) (form (new_typed k bytes)) (cond (viewed k) part over) P covering
-        (λ e. cond_both (viewed k) part over P
+        (cond_both (covers h order b x) (form (new_typed k bytes)) (cond (is_view k) part over) P covering
+        (λ e. cond_both (is_view k) part over P
         (λ v. part_good h f order own s x b k offset n bytes viewed on is_buffer v aligned even inside (all2_length store))
         (λ v. view_over h order own s (all2_length store) x b k offset n false viewed on bytes None c left store is_buffer aligned inside (fixed_counts k offset n (length bytes) even) inner (λ y. one y b)
         (subst (λ e. Good h order own s e (object b) (λ y. one y b)) (sym is) (buffer_good h f order b bytes None is_buffer own left s store))))))

@@ -3,7 +3,7 @@ use Rattle.std.proofs.Common.{◌≡◌, ℕ, Bool, true, false, cond, eqb, ◌�
 use Rattle.std.specs.List.{AllByRecursion as All}
 use Rattle.std.proofs.lemmas.Bool.{cases_Bool, cond-true, cond-false}
 use Rattle.dump.specs.Heaps.{Numeral}
-use Rattle.numeral.specs.Words.{same_units_lem}
+use Rattle.numeral.specs.Words.{same_units}
 use Rattle.formed.specs.Formed as formed
 use Rattle.formed.specs.Formed.{Pairwise}
 use Rattle.formed.proofs.Heaps as heaps
@@ -19,9 +19,9 @@ use Rattle.faithful.proofs.Main.{faithful}
 
 -- the first numeral of a list, or one behind it
 read : (n : Numeral) (ns : List Numeral) (bits : ℕ) (t : List ℕ) → reading_in (n ∷ ns) t ≡ Some bits → ((t ≡ n.digits) × (n.bits ≡ bits)) ⊎ (reading_in ns t ≡ Some bits)
-read n ns bits t e = go (same_units_lem t n.digits) refl e
+read n ns bits t e = go (same_units t n.digits) refl e
   where
-    go : (b : Bool) → same_units_lem t n.digits ≡ b → cond b (Some n.bits) (reading_in ns t) ≡ Some bits → ((t ≡ n.digits) × (n.bits ≡ bits)) ⊎ (reading_in ns t ≡ Some bits)
+    go : (b : Bool) → same_units t n.digits ≡ b → cond b (Some n.bits) (reading_in ns t) ≡ Some bits → ((t ≡ n.digits) × (n.bits ≡ bits)) ⊎ (reading_in ns t ≡ Some bits)
     go true q d = inl ((same_units_lem t n.digits).0 q, some_is d)
     go false q d = inr d
 
@@ -33,13 +33,13 @@ other_bits m (n ∷ ns) a bits t e d = ⊎_elim (λ (q : (t ≡ n.digits) × (n.
 there : (ns : List Numeral) → Pairwise Apart ns → (bits : ℕ) (t : List ℕ) → numeral_in ns bits ≡ Some t → reading_in ns t ≡ Some bits
 there [] a bits t e = absurd (none_some e)
 there (n ∷ ns) a bits t e = ⊎_elim
-    (λ (q : (n.bits ≡ bits) × (n.digits ≡ t)). cond-true (same_units_lem t n.digits) (Some n.bits) (reading_in ns t) ((same_units_lem t n.digits).1 (sym q.1)) ∙ ap Some q.0)
+    (λ (q : (n.bits ≡ bits) × (n.digits ≡ t)). cond-true (same_units t n.digits) (Some n.bits) (reading_in ns t) ((same_units_lem t n.digits).1 (sym q.1)) ∙ ap Some q.0)
     (λ (q : numeral_in ns bits ≡ Some t).
-    cond-false (same_units_lem t n.digits) (Some n.bits) (reading_in ns t) (apart q) ∙ there ns a.1 bits t q)
+    cond-false (same_units t n.digits) (Some n.bits) (reading_in ns t) (apart q) ∙ there ns a.1 bits t q)
     (either n ns bits t e)
   where
-    apart : numeral_in ns bits ≡ Some t → same_units_lem t n.digits ≡ false
-    apart q = ⊎_elim (λ (u : same_units_lem t n.digits ≡ true). absurd (absent n ns bits t a.0 (sym ((same_units_lem t n.digits).0 u)) q)) (λ u. u) (cases_Bool (same_units_lem t n.digits))
+    apart : numeral_in ns bits ≡ Some t → same_units t n.digits ≡ false
+    apart q = ⊎_elim (λ (u : same_units t n.digits ≡ true). absurd (absent n ns bits t a.0 (sym ((same_units_lem t n.digits).0 u)) q)) (λ u. u) (cases_Bool (same_units t n.digits))
 
 back : (ns : List Numeral) → Pairwise Apart ns → (bits : ℕ) (t : List ℕ) → reading_in ns t ≡ Some bits → numeral_in ns bits ≡ Some t
 back [] a bits t e = absurd (none_some e)

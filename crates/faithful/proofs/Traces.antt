@@ -1,5 +1,5 @@
 -- Every trace over lines that run is sound.
-use Rattle.std.proofs.Common.{◌≡◌, ℕ, ◌<◌, List, [], ◌∷◌, ◌++◌, map, length, Some, Option, sym, refl, ap, ◌∙◌, subst, append_assoc, append_nil, arith, length-append}
+use Rattle.std.proofs.Common.{◌≡◌, ℕ, ◌<◌, List, [], ◌∷◌, ◌++◌, map, length, Some, Option, sym, refl, ap, ◌∙◌, subst, append_assoc, append-nil, arith, length-append}
 use Rattle.std.specs.List.{AllByRecursion as All}
 use Rattle.dump.specs.Heaps.{Heap}
 use Rattle.planner.specs.Lines.{Plan}
@@ -56,7 +56,7 @@ module _ (h : Heap) (reading : List ℕ → Option ℕ) where
         ran = r.0;
         runs = r.1;
         counts = ap length takes ∙ length-append (sent es) left;
-        rebuilt = λ none. runs.whole r.0 (subst (λ x. run reading x ≡ Some r.0) (sym (takes ∙ ap (λ (x : List (List ℕ)). sent es ++ x) none ∙ append_nil (sent es))) r.1);
+        rebuilt = λ none. runs.whole r.0 (subst (λ x. run reading x ≡ Some r.0) (sym (takes ∙ ap (λ (x : List (List ℕ)). sent es ++ x) none ∙ append-nil (sent es))) r.1);
       }
 
   -- every trace over lines that run is sound

@@ -12,7 +12,7 @@ use Rattle.dump.specs.Places.{text_of, key_at, value_at, cell_at}
 use Rattle.dump.specs.Rules.{Hold, any_below}
 use Rattle.dump.proofs.Rules.{none_passes}
 use Rattle.numeral.specs.Digits.{index_of}
-use Rattle.numeral.specs.Words.{same_units_lem}
+use Rattle.numeral.specs.Words.{same_units}
 use Rattle.numeral.proofs.Laws.{same_units_lem}
 use Rattle.shapes.specs.Cells.{tag_ok, place_ok, same_zero, minus_zero}
 use Rattle.rules.specs.declared.role.Role.{Role}
@@ -29,10 +29,10 @@ use Rattle.formed.proofs.SameValues.{same_value_sym, same_found, is_minus_zero}
 use Rattle.formed.proofs.Words.{units_below, low_below, high_below}
 
 -- what the tests of a key tell, outside of any dump
-not_false : (x y : Bool) → not (x && y) ≡ true → x ≡ true → y ≡ false
-not_false true true h e = absurd (both_ways _ refl h)
-not_false true false h e = refl
-not_false false y h e = absurd (both_ways _ refl e)
+not-false : (x y : Bool) → not (x && y) ≡ true → x ≡ true → y ≡ false
+not-false true true h e = absurd (both_ways _ refl h)
+not-false true false h e = refl
+not-false false y h e = absurd (both_ways _ refl e)
 
 -- an index key at place k, with the one before it
 index_below_lem : (low most limit : ℕ) (c : Bool) → (ltb low most && (ltb low limit && c)) ≡ true → (low < limit) × (c ≡ true)
@@ -102,7 +102,7 @@ module _ (b : List ℕ) (l : Layout) (bytes : are_bytes b ≡ true) (s : Sound b
           units_below b bytes _ _,
           n.0,
           λ a.
-              let w = or_parts _ _ (not_false array (reserved b l (cell k).low) n.1 a) in (
+              let w = or_parts _ _ (not-false array (reserved b l (cell k).low) n.1 a) in (
                 not_from_Decides _ (same_units_lem (text_of b l (cell k).low) (codes "length")) w.0,
                 not_from_Decides _ (same_units_lem (text_of b l (cell k).low) (codes "__proto__")) w.1,
               ),

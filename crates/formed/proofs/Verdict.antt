@@ -11,7 +11,7 @@ use Rattle.dump.specs.Rules.{Verdict, and_then, each, Hold}
 use Rattle.dump.proofs.Rules.{then_parts, then_from, row_passes, rows_pass, judge_holds, judge_passes}
 use Rattle.rules.specs.Texts.{text_rules, text_row, text_rows, numeral_rules, numeral_row, numeral_rows}
 use Rattle.rules.specs.Cells.{root_rules, root_row}
-use Rattle.rules.specs.Objects.{object_rules, object_row, object_rows, parts_below, bytes_below_lem}
+use Rattle.rules.specs.Objects.{object_rules, object_row, object_rows, parts_below, bytes_below}
 use Rattle.rules.specs.Parts.{first_run, second_run, part_rules, part_row, part_run, object_parts, loose_run}
 use Rattle.rules.specs.Verdicts.{all_used, rows_of, verdict}
 use Rattle.formed.specs.Sound.{Sound}
@@ -33,7 +33,7 @@ module _ (b : List ℕ) (l : Layout) where
       let p5 = then_parts (part_run b l (loose_run b l)) _ p4.1 in
       let p6 = then_parts (root_row b l) _ p5.1 in
       let p7 = then_parts (all_used 2 (begin_of b l l.texts.count) l.units.count) _ p6.1 in
-      let p8 = then_parts (all_used 4 (bytes_below_lem b l l.objects.count) l.octets.count) _ p7.1 in
+      let p8 = then_parts (all_used 4 (bytes_below b l l.objects.count) l.octets.count) _ p7.1 in
       record {
         texts = λ i g. judge_holds 1 i (text_rules b l i) (row_passes (text_row b l) l.texts.count i p1.0 g);
         numerals = λ i g. judge_holds 3 i (numeral_rules b l i) (row_passes (numeral_row b l) l.numerals.count i p2.0 g);
@@ -42,7 +42,7 @@ module _ (b : List ℕ) (l : Layout) where
         more_parts = λ i k g f. part (second_run (row_at b l i)) k (then_parts (part_run b l (first_run (row_at b l i))) _ (row_passes (object_parts b l) l.objects.count i p4.0 g)).1 f;
         root = judge_holds 7 0 (root_rules b l) p6.0;
         no_loose_unit = all_used_lem 2 (begin_of b l l.texts.count) l.units.count p7.0;
-        no_loose_byte = all_used_lem 4 (bytes_below_lem b l l.objects.count) l.octets.count p8.0;
+        no_loose_byte = all_used_lem 4 (bytes_below b l l.objects.count) l.octets.count p8.0;
         no_loose_part = all_used_lem 6 (parts_below b l l.objects.count) l.parts.count p8.1;
       }
     where
@@ -62,7 +62,7 @@ module _ (b : List ℕ) (l : Layout) where
       (then_from (part_run b l (loose_run b l)) _ (rows_pass (part_row b l (loose_run b l)) (loose_run b l).count (λ k f. absurd (omega (arith, s.no_loose_part, f))))
       (then_from (root_row b l) _ (judge_passes 7 0 (root_rules b l) s.root)
       (then_from (all_used 2 (begin_of b l l.texts.count) l.units.count) _ (used_all 2 (begin_of b l l.texts.count) l.units.count s.no_loose_unit)
-      (then_from (all_used 4 (bytes_below_lem b l l.objects.count) l.octets.count) _ (used_all 4 (bytes_below_lem b l l.objects.count) l.octets.count s.no_loose_byte)
+      (then_from (all_used 4 (bytes_below b l l.objects.count) l.octets.count) _ (used_all 4 (bytes_below b l l.objects.count) l.octets.count s.no_loose_byte)
       (used_all 6 (parts_below b l l.objects.count) l.parts.count s.no_loose_part))))))))
 
 -- a verdict that passes leaves what comes after it

@@ -13,7 +13,7 @@ use Rattle.formed.specs.Formed.{TimeFits}
 use Rattle.script.specs.Texts.{view_name, error_word, flag_letters, Listing, numbers, floats, listing, all_zero}
 use Rattle.evaluator.specs.Options.{and_then, when, or_else, nth}
 use Rattle.evaluator.specs.Stores.{Val, undefined, null, number, boolean, big, text, ref, Shape, wrapped, regexp, date, ordinary, array, mapping, setting, buffer, view, error, Slot, keyed, single, Obj, State, Made, made, make, object_of}
-use Rattle.evaluator.specs.Makes.{index_in_lem, option, option_in, Typed, view_of, width_of, sort_of, is_typed, list_in, list_of, BufferHeld, buffer_in, buffer_at, view_held, elements, zeros, fresh_typed, place_view_lem, view_on, new_first, new_view, new_error, entries, members, construct, buffer_of}
+use Rattle.evaluator.specs.Makes.{index_in, option, option_in, Typed, view_of, width_of, sort_of, is_typed, list_in, list_of, BufferHeld, buffer_in, buffer_at, view_held, elements, zeros, fresh_typed, place_view, view_on, new_first, new_view, new_error, entries, members, construct, buffer_of}
 use Rattle.evaluator.specs.Isomorphic.{whole_double}
 use Rattle.effects.specs.Effects.{count, grown, list_vals, listed, typed_view, fixed, list_made, typed_on, typed_state, typed_ref, maximum_key, cause_key, somes}
 use Rattle.effects.specs.Readable.{Data}
@@ -77,7 +77,7 @@ module _ (s : State) where
   pub new_resizable_made : (n m o : ℕ) → n ≤ m → m ≤ 9007199254740991 → nth s.objects o ≡ Some (record { shape = ordinary; slots = keyed maximum_key (count m) ∷ [] }) → construct (codes "ArrayBuffer") (count n ∷ ref o ∷ []) s ≡ make (buffer (zeros n) (Some m)) [] s
   new_resizable_made n m o le small h =
       let most : option maximum_key (ref o) s ≡ Some (count m) = ap (λ x. and_then x (λ y. option_in maximum_key y.slots)) h in
-      (λ i. and_then (index_in_lem n (omega arith) i) (λ size. and_then (and_then (most i) index_in_lem) (λ m. when (leb size m) (make (buffer (zeros size) (Some m)) [] s))))
+      (λ i. and_then (index_in_lem n (omega arith) i) (λ size. and_then (and_then (most i) index_in) (λ m. when (leb size m) (make (buffer (zeros size) (Some m)) [] s))))
       ∙ ap (λ x. and_then x (λ k. when (leb n k) (make (buffer (zeros n) (Some k)) [] s))) (index_in_lem m small)
       ∙ ap (λ b. when b (make (buffer (zeros n) (Some m)) [] s)) (le-leb n m le)
 
@@ -201,7 +201,7 @@ not_list s v b = go (object_of s v)
 held : (k : ViewKind) (v : Val) (offset : ℕ) (n : Option ℕ) (s : State) (m : Made) → view_on k v offset n s ≡ Some m → (b : BufferHeld) × (buffer_at s v ≡ Some b)
 held k v offset n s m = go (buffer_at s v)
   where
-    go : (o : Option BufferHeld) → and_then o (λ b. place_view_lem k v offset n b s) ≡ Some m → (b : BufferHeld) × (o ≡ Some b)
+    go : (o : Option BufferHeld) → and_then o (λ b. place_view k v offset n b s) ≡ Some m → (b : BufferHeld) × (o ≡ Some b)
     go None h = absurd (let z : ◌≡◌ {A = ℕ} 0 1 = cc in omega arith)
     go (Some b) h = (b, refl)
 
@@ -288,7 +288,7 @@ from_list k bytes s minus big? t e =
     ∙ list_fresh k bytes s l
 
 -- a view of all of a buffer that is not resizable
-all_view : (k : ViewKind) (bytes : List ℕ) (on : Val) (s : State) → length bytes % width k ≡ 0 → place_view_lem k on 0 None (record { bytes = bytes; maximum = None }) s ≡ make (view k 0 (Some (length bytes / width k))) (single on ∷ []) s
+all_view : (k : ViewKind) (bytes : List ℕ) (on : Val) (s : State) → length bytes % width k ≡ 0 → place_view k on 0 None (record { bytes = bytes; maximum = None }) s ≡ make (view k 0 (Some (length bytes / width k))) (single on ∷ []) s
 all_view k bytes on s even =
     let w : width_of k ≡ width k = width_of_lem k in
     let a = and_from (eqb (0 % width_of k) 0) (leb 0 (length bytes)) (eq-eqb (0 % width_of k) 0 (zero-mod (width_of k))) (le-leb 0 (length bytes) (omega arith)) in
@@ -320,7 +320,7 @@ module _ (k : ViewKind) (bytes : List ℕ) (d : Data k bytes) (s : State) where
 
   pub typed_floats : all_zero bytes ≡ false → listing k ≡ floats → construct (view_name k) (ref (suc (length s.objects)) ∷ []) (bytes_state bytes s) ≡ made (typed_ref k bytes s) (typed_state k bytes s)
   typed_floats z e = view_whole k (bytes_state bytes s) (ref (suc n)) (record { val = typed_ref k bytes s; state = typed_state k bytes s })
-      (ap (λ o. and_then (and_then o (λ x. buffer_in x.shape)) (λ b. place_view_lem k (ref (suc n)) 0 None b (bytes_state bytes s))) (nth_at s.objects _ (suc n) 1 (omega arith))
+      (ap (λ o. and_then (and_then o (λ x. buffer_in x.shape)) (λ b. place_view k (ref (suc n)) 0 None b (bytes_state bytes s))) (nth_at s.objects _ (suc n) 1 (omega arith))
       ∙ all_view k bytes (ref (suc n)) (bytes_state bytes s) d.even
       ∙ (λ i. made (ref (l i)) (grown_grown s (listed false false 1 bytes ∷ fixed bytes ∷ typed_view Uint8Array (suc n) bytes ∷ []) (typed_view k (suc n) bytes ∷ []) i))
       ∙ list_made_lem k bytes s floats z e)

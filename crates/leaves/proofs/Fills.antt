@@ -7,7 +7,7 @@ use Rattle.dump.specs.Kinds.{width}
 use Rattle.script.specs.Texts.{view_name, numbers, listing}
 use Rattle.evaluator.specs.Options.{and_then, when, or_else, nth}
 use Rattle.evaluator.specs.Stores.{Val, undefined, null, boolean, number, big, text, ref, buffer, view, single, Obj, State, Made, made, change, place}
-use Rattle.evaluator.specs.Makes.{width_of, sort_of, list_of, BufferHeld, buffer_in, ViewHeld, view_held, buffer_at, elements, place_view_lem, view_on, construct, count_in, overwritten, set_bytes, set_pair, call}
+use Rattle.evaluator.specs.Makes.{width_of, sort_of, list_of, BufferHeld, buffer_in, ViewHeld, view_held, buffer_at, elements, place_view, view_on, construct, count_in, overwritten, set_bytes, set_pair, call}
 use Rattle.effects.specs.Effects.{grown, list_vals, listed, somes, filled, filled_by}
 use Rattle.effects.specs.Readable.{Data}
 use Rattle.leaves.proofs.Lists.{width_some, somes_length, lists_back, list_of_lem}
@@ -59,7 +59,7 @@ either true false true a b c h = inr cc
 either true false false a b c h = absurd (let z : ◌≡◌ {A = ℕ} 0 1 = cc in omega arith)
 either false y z a b c h = absurd (let z : ◌≡◌ {A = ℕ} 0 1 = cc in omega arith)
 
-on_buffer : (k : ViewKind) (p : ℕ) (b : BufferHeld) (s : State) (w : Made) → place_view_lem k (ref p) 0 None b s ≡ Some w → OnBuffer k p b s w
+on_buffer : (k : ViewKind) (p : ℕ) (b : BufferHeld) (s : State) (w : Made) → place_view k (ref p) 0 None b s ≡ Some w → OnBuffer k p b s w
 on_buffer k p b s w h =
     let c : Option ℕ = Some ((length b.bytes - 0) / width_of k) in
     ⊎_elim (λ e. record { count = None; is = e; counts = refl }) (λ e. record { count = c; is = e; counts = refl })
@@ -119,7 +119,7 @@ module _ (k : ViewKind) (bytes : List ℕ) (minus big? : Bool) (d : Data k bytes
 
       by_test : (b : BufferHeld) (w : Made) → buffer_at s (ref p) ≡ Some b → view_on k (ref p) 0 None s ≡ Some w → (c : Bool) → leb (length bytes) (length b.bytes) ≡ c → when c (Some (after b w)) ≡ Some t → Filled k (ref p) minus big? bytes s t
       by_test b w eb ew true ec h =
-          let o = on_buffer k p b s w (sym (ap (λ x. and_then x (λ y. place_view_lem k (ref p) 0 None y s)) eb) ∙ ew) in
+          let o = on_buffer k p b s w (sym (ap (λ x. and_then x (λ y. place_view k (ref p) 0 None y s)) eb) ∙ ew) in
           let e : after b w ≡ t = cc in
           record { on = w; constructed = view_whole k s (ref p) w ew; done = set_done p b s w eb o (leb-true (length bytes) (length b.bytes) ec) ∙ ap (made undefined) e }
       by_test b w eb ew false ec h = absurd (let z : ◌≡◌ {A = ℕ} 0 1 = cc in omega arith)

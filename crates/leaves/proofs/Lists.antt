@@ -13,7 +13,7 @@ use Rattle.script.specs.Texts.{Listing, numbers, floats, listing, low_first}
 use Rattle.evaluator.specs.Options.{and_then, when, nth}
 use Rattle.evaluator.specs.Stores.{Val, ref, array, State}
 use Rattle.evaluator.specs.Makes as makes
-use Rattle.evaluator.specs.Makes.{integer, whole_in_lem, Sort, clamped, bigs, sort_of, is_typed, slot_values, list_in, list_of, low_bytes, modulo, clamp, element, elements}
+use Rattle.evaluator.specs.Makes.{integer, whole_in, Sort, clamped, bigs, sort_of, is_typed, slot_values, list_in, list_of, low_bytes, modulo, clamp, element, elements}
 use Rattle.evaluator.specs.Runs.{all_vals, element_slots}
 use Rattle.effects.specs.Effects.{element_val, list_vals, listed, somes}
 use Rattle.effects.specs.Readable.{Data}
@@ -48,7 +48,7 @@ module _ (w n : ℕ) (below : n < 2 ^ (8 * w)) where
 -- one element
 each_number : (minus : Bool) (w n : ℕ) → n < 2 ^ (8 * w) → 2 ^ (8 * w) ≤ 9007199254740991 → element makes.numbers w (element_val minus false w n) ≡ Some (low_bytes w n)
 each_number minus w n below small =
-    cond_both (minus && leb (2 ^ (8 * w - 1)) n) (whole_bits true (2 ^ (8 * w) - n)) (whole_bits false n) (λ bits. and_then (whole_in_lem bits) (λ z. Some (low_bytes w (modulo w z))) ≡ Some (low_bytes w n))
+    cond_both (minus && leb (2 ^ (8 * w - 1)) n) (whole_bits true (2 ^ (8 * w) - n)) (whole_bits false n) (λ bits. and_then (whole_in bits) (λ z. Some (low_bytes w (modulo w z))) ≡ Some (low_bytes w n))
     (λ _. (λ i. and_then (whole_in_lem true (2 ^ (8 * w) - n) (omega arith) i) (λ z. Some (low_bytes w (modulo w z)))) ∙ (λ i. Some (low_bytes w (modulo w (integer_minus (2 ^ (8 * w) - n) (omega arith) i)))) ∙ (λ i. Some (low_bytes w (modulo_minus w n below i))))
     (λ _. (λ i. and_then (whole_in_lem false n (omega arith) i) (λ z. Some (low_bytes w (modulo w z)))) ∙ (λ i. Some (low_bytes w (modulo_plus w n below i))))
 

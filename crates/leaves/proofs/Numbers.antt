@@ -1,5 +1,5 @@
 -- Numbers and names as they are written, and the values that the evaluator reads of them.
-use Rattle.std.proofs.Common.{◌≡◌, ℕ, zero, suc, ◌+◌, ◌*◌, ◌/◌, ◌%◌, ◌^◌, ◌<◌, ◌≤◌, Bool, true, false, cond, ◌&&◌, ◌||◌, eqb, ltb, leb, ◌⊎◌, List, [], ◌∷◌, ◌++◌, length, drop, ℤ, pos, negsuc, nat_abs, Some, None, codes, decimal, Option, sym, refl, ap, ◌∙◌, subst, inl, inr, ⊎_elim, append_nil, arith, ne_eqb, eqb-true}
+use Rattle.std.proofs.Common.{◌≡◌, ℕ, zero, suc, ◌+◌, ◌*◌, ◌/◌, ◌%◌, ◌^◌, ◌<◌, ◌≤◌, Bool, true, false, cond, ◌&&◌, ◌||◌, eqb, ltb, leb, ◌⊎◌, List, [], ◌∷◌, ◌++◌, length, drop, ℤ, pos, negsuc, nat_abs, Some, None, codes, decimal, Option, sym, refl, ap, ◌∙◌, subst, inl, inr, ⊎_elim, append-nil, arith, ne_eqb, eqb-true}
 use Rattle.std.specs.Fmt.{digits, digit_glyph, digits_onto}
 use Rattle.std.specs.List.{AllByRecursion as All}
 use Rattle.std.proofs.ByRecursion.{All-weaker, All-drop}
@@ -211,7 +211,7 @@ module _ (reading : List ℕ → Option ℕ) (n : ℕ) where
 
   pub number_hex : (negative : Bool) → n ≤ 9007199254740991 → number_value reading (hex_text negative n false) ≡ Some (number (whole_bits negative n))
   number_hex negative small =
-      ap (number_value reading) (append_nil (cond negative (codes "-0x") (codes "0x") ++ hex_digits n))
+      ap (number_value reading) (append-nil (cond negative (codes "-0x") (codes "0x") ++ hex_digits n))
       ∙ hex_plain negative (hex_digits n) (hex_no_n n) (hex_number_lem n (omega arith)) small
 
   whole_hex : (ds : List ℕ) → hex_number ds ≡ Some n → whole_number (48 ∷ 120 ∷ ds) ≡ Some n

@@ -9,7 +9,7 @@ use Rattle.speller.specs.Whole.{numeral_of}
 use Rattle.speller.proofs.Floats.{bits_of, cut_back}
 use Rattle.speller.proofs.Wholes.{signed_is, wholes, shaped}
 use Rattle.evaluator.specs.Options.{and_then, when}
-use Rattle.evaluator.specs.Makes.{size_bits, cut_to, integer, whole_in_lem, natural, index_in_lem, key_in_lem, within, time_in}
+use Rattle.evaluator.specs.Makes.{size_bits, cut_to, integer, whole_in, natural, index_in, key_in, within, time_in}
 use Rattle.evaluator.specs.Isomorphic.{whole_double}
 use Rattle.effects.specs.Effects.{count}
 
@@ -33,21 +33,21 @@ module _ (negative : Bool) (n : ℕ) (small : n ≤ 9007199254740991) where
   cut_to_lem : cut_to (whole_bits negative n) ≡ n
   cut_to_lem = ap (λ b. to_unsigned 64 (of_bits binary64 b)) size_bits_lem ∙ cut_back n small
 
-  pub whole_in_lem : whole_in_lem (whole_bits negative n) ≡ Some (integer negative n)
+  pub whole_in_lem : whole_in (whole_bits negative n) ≡ Some (integer negative n)
   whole_in_lem =
       (λ i. when (leb (cut_to_lem i) 9007199254740991 && eqb (whole_bits negative n) (whole_bits (signed_is n small negative i) (cut_to_lem i))) (Some (integer (signed_is n small negative i) (cut_to_lem i))))
       ∙ ap (λ b. when b (Some (integer negative n))) (and_from _ _ (le-leb n 9007199254740991 small) (eq-eqb (whole_bits negative n) (whole_bits negative n) refl))
 
 -- an index, and the key that it is
 module _ (n : ℕ) (small : n ≤ 9007199254740991) where
-  pub index_in_lem : index_in_lem (count n) ≡ Some n
+  pub index_in_lem : index_in (count n) ≡ Some n
   index_in_lem = ap (λ o. and_then o natural) (whole_in_lem false n small)
 
-  pub key_in_lem : key_in_lem (count n) ≡ Some (decimal n)
+  pub key_in_lem : key_in (count n) ≡ Some (decimal n)
   key_in_lem = ap (λ o. and_then o (λ m. Some (decimal m))) index_in_lem
 
 -- a time in range
-in_time : (bits : ℕ) (z : ℤ) → finite bits ≡ true → whole_in_lem bits ≡ Some z → within z ≡ true → time_in bits ≡ Some (Some z)
+in_time : (bits : ℕ) (z : ℤ) → finite bits ≡ true → whole_in bits ≡ Some z → within z ≡ true → time_in bits ≡ Some (Some z)
 in_time bits z f w t =
     (λ i. cond (f i) (and_then (w i) (λ y. Some (cond (within y) (Some y) None))) (Some None)) ∙ ap (λ b. Some (cond b (Some z) None)) t
 

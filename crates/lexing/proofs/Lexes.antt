@@ -1,5 +1,5 @@
 -- What the lexer finds in the characters of one word, mark, number or piece of layout, whatever follows.
-use Rattle.std.proofs.Common.{◌≡◌, ℕ, zero, suc, Bool, true, false, ◌&&◌, ◌||◌, eqb, List, [], ◌∷◌, ◌++◌, Some, None, codes, Option, sym, refl, ap, ◌∙◌, append_assoc, append_nil, arith}
+use Rattle.std.proofs.Common.{◌≡◌, ℕ, zero, suc, Bool, true, false, ◌&&◌, ◌||◌, eqb, List, [], ◌∷◌, ◌++◌, Some, None, codes, Option, sym, refl, ap, ◌∙◌, append_assoc, append-nil, arith}
 use Rattle.std.proofs.lemmas.Bool.{cond-true, cond-false, and_parts, both_ways}
 use Rattle.std.proofs.lemmas.Bool.Decides.{nat_tests}
 use Rattle.script.specs.Items.{spaces}
@@ -50,7 +50,7 @@ start_word c h =
     ∙ cond-false (is_digit c) _ _ (grind (arith, nat_tests)) ∙ cond-false (eqb c 45) _ _ (grind (arith, nat_tests)) ∙ cond-true (word_start c) _ _ h
 
 word_run : (cs rest w : List ℕ) → are_parts cs ≡ true → lex (cs ++ rest) (in_word w) ≡ lex rest (in_word (w ++ cs))
-word_run [] rest w h = ap (λ z. lex rest (in_word z)) (sym (append_nil w))
+word_run [] rest w h = ap (λ z. lex rest (in_word z)) (sym (append-nil w))
 word_run (c ∷ cs) rest w h =
     let p = and_parts (word_part c) (are_parts cs) h in
     silent c (in_word w) (in_word (w ++ (c ∷ []))) (cs ++ rest) (cond-true (word_part c) _ _ p.0)
@@ -101,7 +101,7 @@ start_number c h =
     ∙ cond-true (is_digit c) _ _ h
 
 number_run : (cs rest w : List ℕ) → are_number_parts cs ≡ true → lex (cs ++ rest) (in_number w) ≡ lex rest (in_number (w ++ cs))
-number_run [] rest w h = ap (λ z. lex rest (in_number z)) (sym (append_nil w))
+number_run [] rest w h = ap (λ z. lex rest (in_number z)) (sym (append-nil w))
 number_run (c ∷ cs) rest w h =
     let p = and_parts (number_part c) (are_number_parts cs) h in
     silent c (in_number w) (in_number (w ++ (c ∷ []))) (cs ++ rest) (cond-true (number_part c) _ _ p.0)

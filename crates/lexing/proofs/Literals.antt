@@ -1,5 +1,5 @@
 -- The lexer reads in the bytes of a string literal the units of its text.
-use Rattle.std.proofs.Common.{◌≡◌, ℕ, zero, suc, ◌+◌, ◌-◌, ◌*◌, ◌/◌, ◌%◌, ◌^◌, ◌<◌, ◌≤◌, Bool, true, false, cond, ◌&&◌, ◌||◌, eqb, ltb, leb, ◌⊎◌, List, [], ◌∷◌, ◌++◌, Some, None, codes, Option, sym, refl, ap, ◌∙◌, inl, inr, ⊎_elim, append_assoc, append_nil, arith}
+use Rattle.std.proofs.Common.{◌≡◌, ℕ, zero, suc, ◌+◌, ◌-◌, ◌*◌, ◌/◌, ◌%◌, ◌^◌, ◌<◌, ◌≤◌, Bool, true, false, cond, ◌&&◌, ◌||◌, eqb, ltb, leb, ◌⊎◌, List, [], ◌∷◌, ◌++◌, Some, None, codes, Option, sym, refl, ap, ◌∙◌, inl, inr, ⊎_elim, append_assoc, append-nil, arith}
 use lib.Utf8.{encode}
 use Rattle.std.specs.Fmt.{digit_glyph, digits_onto, digits}
 use Rattle.std.proofs.ByRecursion.{All-append}
@@ -20,7 +20,7 @@ record Carries (bs us : List ℕ) : Type 0 where
   reads : (rest acc : List ℕ) → lex (points ++ rest) (in_string acc) ≡ lex rest (in_string (acc ++ us))
 
 carries_none : Carries [] []
-carries_none = record { points = []; encodes = encodes_none; reads = λ rest acc. ap (λ z. lex rest (in_string z)) (sym (append_nil acc)) }
+carries_none = record { points = []; encodes = encodes_none; reads = λ rest acc. ap (λ z. lex rest (in_string z)) (sym (append-nil acc)) }
 
 carries_both : (bs cs us vs : List ℕ) → Carries bs us → Carries cs vs → Carries (bs ++ cs) (us ++ vs)
 carries_both bs cs us vs f g = record {

@@ -8,7 +8,7 @@ use Rattle.numeral.specs.Numerals.{finite}
 use Rattle.numeral.proofs.Laws.{pair_numeral}
 use Rattle.speller.specs.Spelling.{Lawful}
 use Rattle.script.specs.Items as items
-use Rattle.script.specs.Items.{Item, all, spelled, spaces, signed_decimal, not_finite_lem, or_cut, before, line}
+use Rattle.script.specs.Items.{Item, all, spelled, spaces, signed_decimal, not_finite, or_cut, before, line}
 use Rattle.script.specs.Literals.{literal}
 use Rattle.effects.specs.Readable.{Spelled}
 use Rattle.effects.specs.Tokens.{hex_text, not_finite_tokens, numeral_tokens, item_tokens, items_tokens}
@@ -55,7 +55,7 @@ word_piece : (w : List ℕ) → is_word w ≡ true → Piece free w (word w ∷ 
 word_piece w h = record { chars = w; encodes = encodes_ascii w (ascii_word w h); lexes = λ rest us m e. lex_word w rest us h m e; clear = λ rest. refl }
 
 -- an infinite double, or none
-not_finite_piece : (bits : ℕ) → Piece free (not_finite_lem bits) (not_finite_tokens bits) numbered
+not_finite_piece : (bits : ℕ) → Piece free (not_finite bits) (not_finite_tokens bits) numbered
 not_finite_piece bits = go (eqb bits 9218868437227405312) (eqb bits 18442240474082181120)
   where
     plain : (w : List ℕ) → is_word w ≡ true → Piece free w (word w ∷ []) numbered
@@ -114,11 +114,11 @@ module _ (numeral : ℕ → Option (List ℕ)) (lawful : Lawful numeral) where
       go true e =
           let t = (s e).0 in
           let h = (s e).1 in
-          joined (items.double bits) is t (number t ∷ []) (λ l. ap (λ b. cond b (or_cut bits (numeral bits) (all l)) (spelled (not_finite_lem bits) (all l))) e ∙ ap (λ o. or_cut bits o (all l)) h)
+          joined (items.double bits) is t (number t ∷ []) (λ l. ap (λ b. cond b (or_cut bits (numeral bits) (all l)) (spelled (not_finite bits) (all l))) e ∙ ap (λ o. or_cut bits o (all l)) h)
           (ap (λ b. cond b (numeral_tokens (numeral bits)) (not_finite_tokens bits)) e ∙ ap numeral_tokens h)
           (number_piece t (numeral_number t (pair_numeral bits t (lawful.shaped bits t h)))) r
       go false e =
-          joined (items.double bits) is (not_finite_lem bits) (not_finite_tokens bits) (λ l. ap (λ b. cond b (or_cut bits (numeral bits) (all l)) (spelled (not_finite_lem bits) (all l))) e)
+          joined (items.double bits) is (not_finite bits) (not_finite_tokens bits) (λ l. ap (λ b. cond b (or_cut bits (numeral bits) (all l)) (spelled (not_finite bits) (all l))) e)
           (ap (λ b. cond b (numeral_tokens (numeral bits)) (not_finite_tokens bits)) e) (not_finite_piece bits) r
 
   reads_one : {d e : Edge} {i : Item} (is : List Item) → Fit numeral d i e → Reads numeral e is → Reads numeral d (i ∷ is)

@@ -9,7 +9,7 @@ use Rattle.dump.specs.declared.kinds.ErrorName.TheVariants.{Error, EvalError, Ra
 use Rattle.dump.specs.Heaps as heaps
 use Rattle.dump.specs.Heaps.{Text, Value, Key, index, name}
 use Rattle.dump.specs.Kinds.{width}
-use Rattle.numeral.specs.Words.{same_units_lem}
+use Rattle.numeral.specs.Words.{same_units}
 use Rattle.formed.specs.Formed.{Units, MaybeUnits}
 use Rattle.script.specs.Items.{mark, text, hex, blanks, line_end}
 use Rattle.script.specs.Syntax.{Form, named, buffer_of_named, circular, new_boolean, new_number, new_bigint, new_string, new_regexp, new_date, new_array, empty_map_form, empty_set_form, buffer_form, new_resizable, data_buffer, new_typed, typed_part, subarray, braces, brackets, map_group, set_group, error_group, view_group, Expr, value, form, group, Items, none, hole, item, keyed, pair, Stmt, opening, const, assign, put, add, fill, last, return}
@@ -168,7 +168,7 @@ module _ (numeral : ℕ → Option (List ℕ)) where
   runs_key : (k : Key) → KeyReadable k → Runs numeral free (key_items k) free
   runs_key (index n) h = fit_mark refl refl then fit_whole then fit_mark refl refl then done
   runs_key (name t) h =
-      cond_both (same_units_lem t (codes "__proto__")) (mark 91 ∷ text t ∷ mark 93 ∷ []) (text t ∷ []) (λ z. Runs numeral free z free)
+      cond_both (same_units t (codes "__proto__")) (mark 91 ∷ text t ∷ mark 93 ∷ []) (text t ∷ []) (λ z. Runs numeral free z free)
       (λ _. fit_mark refl refl then fit_text h then fit_mark refl refl then done) (λ _. fit_text h then done)
 
   runs_access : (k : Key) → KeyReadable k → Runs numeral worded (access_items k) free

@@ -5,13 +5,13 @@ use Rattle.std.proofs.ByRecursion.{All-weaker}
 use Rattle.std.proofs.lemmas.Slice.Eq.{compares_Decides}
 use Rattle.std.proofs.lemmas.Bool.{not-true, and_parts, or_cases, or_left, or_right, eqb-true, leb-true}
 use Rattle.std.proofs.lemmas.Bool.Decides.{nat_tests}
-use Rattle.numeral.specs.Words.{same_units_lem}
+use Rattle.numeral.specs.Words.{same_units}
 use Rattle.numeral.specs.Order.{before}
 use Rattle.numeral.specs.Digits.{are_digits, is_zero, positive_digits, whole_digits}
 use Rattle.numeral.specs.Numerals.{minus, body, before_point, after_point, is_fraction, is_numeral, is_big_int, whole_of, whole_bits, finite, signed, same, is_double, is_pair}
 
-pub same_units_lem : (xs ys : List ℕ) → Decides (same_units_lem xs ys) (xs ≡ ys)
-same_units_lem = compares_Decides same_units_lem (search rules)
+pub same_units_lem : (xs ys : List ℕ) → Decides (same_units xs ys) (xs ≡ ys)
+same_units_lem = compares_Decides same_units (search rules)
 
 -- the order of texts
 pub before_irreflexive : (xs : List ℕ) → before xs xs ≡ false

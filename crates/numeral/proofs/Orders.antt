@@ -4,7 +4,7 @@ use Rattle.std.proofs.lemmas.List.{drop_more, drop_all}
 use Rattle.std.proofs.lemmas.Bool.{lt-ltb, le-ltb, cases_lt}
 use Rattle.std.proofs.lemmas.Bool.Decides.{nat_tests}
 use Rattle.dump.specs.Bytes.{unit, units_at}
-use Rattle.numeral.specs.Words.{same_units_lem}
+use Rattle.numeral.specs.Words.{same_units}
 use Rattle.numeral.specs.Order.{before}
 use Rattle.numeral.proofs.Runs.{rest, rest_more, rest_done}
 
@@ -27,13 +27,13 @@ module _ (b : List ℕ) (p n q m k : ℕ) where
 
 -- a run and a word from their units k on
 module _ (b : List ℕ) (p n k : ℕ) (word : List ℕ) where
-  pub same_more : k < n → k < length word → same_units_lem (rest b p n k) (drop k word) ≡ (eqb (unit b (p + k * 2)) (get_or word k 0) && same_units_lem (rest b p n (k + 1)) (drop (k + 1) word))
-  same_more h g = (λ i. same_units_lem (rest_more b p n k h i) (drop_more word k 0 g i))
+  pub same_more : k < n → k < length word → same_units (rest b p n k) (drop k word) ≡ (eqb (unit b (p + k * 2)) (get_or word k 0) && same_units (rest b p n (k + 1)) (drop (k + 1) word))
+  same_more h g = (λ i. same_units (rest_more b p n k h i) (drop_more word k 0 g i))
 
-  pub same_done : n ≤ k → length word ≤ k → same_units_lem (rest b p n k) (drop k word) ≡ true
-  same_done h g = (λ i. same_units_lem (rest_done b p n k h i) (drop_all k word g i))
+  pub same_done : n ≤ k → length word ≤ k → same_units (rest b p n k) (drop k word) ≡ true
+  same_done h g = (λ i. same_units (rest_done b p n k h i) (drop_all k word g i))
 
-pub same_length : (xs ys : List ℕ) → (length xs ≡ length ys → ⊥) → same_units_lem xs ys ≡ false
+pub same_length : (xs ys : List ℕ) → (length xs ≡ length ys → ⊥) → same_units xs ys ≡ false
 same_length [] [] h = absurd (h refl)
 same_length [] (y ∷ ys) h = refl
 same_length (x ∷ xs) [] h = refl

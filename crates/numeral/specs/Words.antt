@@ -1,8 +1,8 @@
 -- Two texts with the same units.
 use Rattle.std.specs.Prelude.{ℕ, Bool, true, false, ◌&&◌, List, [], ◌∷◌, ◌==◌}
 
-abbrev pub same_units_lem : List ℕ → List ℕ → Bool
-same_units_lem [] [] = true
-same_units_lem [] (y ∷ ys) = false
-same_units_lem (x ∷ xs) [] = false
-same_units_lem (x ∷ xs) (y ∷ ys) = x == y && same_units_lem xs ys
+abbrev pub same_units : List ℕ → List ℕ → Bool
+same_units [] [] = true
+same_units [] (y ∷ ys) = false
+same_units (x ∷ xs) [] = false
+same_units (x ∷ xs) (y ∷ ys) = x == y && same_units xs ys

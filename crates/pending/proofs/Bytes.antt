@@ -1,5 +1,5 @@
 -- A follow-up that fills a resizable buffer runs, and the buffer has its bytes.
-use Rattle.std.proofs.Common.{◌≡◌, ℕ, zero, suc, ◌%◌, ◌<◌, ◌≤◌, Bool, true, false, cond, ◌&&◌, eqb, leb, ◌⊎◌, List, [], ◌∷◌, ◌++◌, length, drop, Some, None, Option, sym, refl, ap, ◌∙◌, subst, inl, inr, ⊎_elim, append_assoc, append_nil, arith}
+use Rattle.std.proofs.Common.{◌≡◌, ℕ, zero, suc, ◌%◌, ◌<◌, ◌≤◌, Bool, true, false, cond, ◌&&◌, eqb, leb, ◌⊎◌, List, [], ◌∷◌, ◌++◌, length, drop, Some, None, Option, sym, refl, ap, ◌∙◌, subst, inl, inr, ⊎_elim, append_assoc, append-nil, arith}
 use Rattle.std.proofs.lemmas.Bool.{and_from, le-leb, false≢true}
 use Rattle.dump.specs.declared.kinds.ViewKind.{ViewKind}
 use Rattle.dump.specs.declared.kinds.ViewKind.TheVariants.{Int8Array, Uint8Array, Uint8ClampedArray, Int16Array, Uint16Array, Int32Array, Uint32Array, Float32Array, Float64Array, BigInt64Array, BigUint64Array, DataView}
@@ -15,7 +15,7 @@ use Rattle.planner.specs.Lines.{bytes_of}
 use Rattle.evaluator.specs.Options.{nth, and_then, when}
 use Rattle.evaluator.specs.Stores.{Val, ref, Shape, buffer, view, Slot, single, Obj, State, Made, make, change}
 use Rattle.evaluator.specs.Makes as makes
-use Rattle.evaluator.specs.Makes.{zeros, overwritten, width_of, BufferHeld, buffer_at, place_view_lem, view_on}
+use Rattle.evaluator.specs.Makes.{zeros, overwritten, width_of, BufferHeld, buffer_at, place_view, view_on}
 use Rattle.evaluator.specs.Isomorphic.{Pairing, AlikeParts}
 use Rattle.effects.specs.Effects.{grown, listed, filled, filled_by}
 use Rattle.rebuilds.specs.Pending.{In, ordered_tasks, Bytes, Pends, Pending}
@@ -67,7 +67,7 @@ drop_all (x ∷ xs) = drop_all xs
 
 -- as many bytes as there are take the place of all
 overwritten_all : (bytes held : List ℕ) → length held ≡ length bytes → overwritten 0 bytes held ≡ bytes
-overwritten_all bytes held e = ap (λ n. bytes ++ drop n held) (sym e) ∙ ap (λ z. bytes ++ z) (drop_all held) ∙ append_nil bytes
+overwritten_all bytes held e = ap (λ n. bytes ++ drop n held) (sym e) ∙ ap (λ z. bytes ++ z) (drop_all held) ∙ append-nil bytes
 
 -- the view and the list that come up
 abbrev fill_junk : ViewKind → ℕ → Bool → Bool → List ℕ → List Obj
@@ -80,7 +80,7 @@ module _ (p m : ℕ) (k : ViewKind) (minus big? : Bool) (bytes held : List ℕ) 
 
   view_is : view_on k (ref p) 0 None s ≡ make (view k 0 None) (single (ref p) ∷ []) s
   view_is =
-      ap (λ z. and_then z (λ b. place_view_lem k (ref p) 0 None b s)) buffer_is
+      ap (λ z. and_then z (λ b. place_view k (ref p) 0 None b s)) buffer_is
       ∙ ap (λ t. when t (make (view k 0 None) (single (ref p) ∷ []) s)) (and_from (eqb (0 % width_of k) 0) (leb 0 (length held)) (aligned k) (le-leb 0 (length held) (omega arith)))
 
   -- the rest, with the buffer and the view

@@ -4,7 +4,7 @@ use Rattle.std.proofs.lemmas.Bool.{cases_eq, or_left, or_right, or_from, both_wa
 use Rattle.dump.specs.Heaps as heaps
 use Rattle.dump.specs.Heaps.{Text, Value, Key, index, Part, element}
 use Rattle.numeral.specs.Digits.{index_of}
-use Rattle.numeral.specs.Words.{same_units_lem}
+use Rattle.numeral.specs.Words.{same_units}
 use Rattle.planner.specs.Lates.{sets, Late}
 use Rattle.evaluator.specs.Stores.{Val, undefined, Slot, keyed, has_key, set_key}
 use Rattle.evaluator.specs.Isomorphic.{Pairing, Alike}
@@ -26,30 +26,30 @@ module _ (own : Pairing) (o : ℕ) where
   elements_lack t n l e_end = refl
   elements_lack t n l (e_hole r) = elements_lack t n (omega arith) r
   elements_lack t n l (e_same {i = i} {ss = ss} a r) =
-      or_from (same_units_lem t (decimal i)) (has_key t ss) (units_apart t (decimal i) (name_index t i n (omega arith))) (elements_lack t n (omega arith) r)
+      or_from (same_units t (decimal i)) (has_key t ss) (units_apart t (decimal i) (name_index t i n (omega arith))) (elements_lack t n (omega arith) r)
   elements_lack t n l (e_waits {i = i} {ss = ss} u r) =
-      or_from (same_units_lem t (decimal i)) (has_key t ss) (units_apart t (decimal i) (name_index t i n (omega arith))) (elements_lack t n (omega arith) r)
+      or_from (same_units t (decimal i)) (has_key t ss) (units_apart t (decimal i) (name_index t i n (omega arith))) (elements_lack t n (omega arith) r)
 
   -- an index whose element is no hole is
   pub has_element : {ls : List Late} {i j : ℕ} {v : Value} {ps : List Part} {ss : List Slot} (w : Val) → Alike own v w → ElementAt i ps j v → Elements own o ls i ps ss → has_key (decimal j) ss ≡ true
   has_element w a at_first (e_hole r) = absurd a
-  has_element {j = j} w a at_first (e_same {ss = ss} b r) = or_left (same_units_lem (decimal j) (decimal j)) (has_key (decimal j) ss) (units_same (decimal j) (decimal j) refl)
-  has_element {j = j} w a at_first (e_waits {ss = ss} u r) = or_left (same_units_lem (decimal j) (decimal j)) (has_key (decimal j) ss) (units_same (decimal j) (decimal j) refl)
+  has_element {j = j} w a at_first (e_same {ss = ss} b r) = or_left (same_units (decimal j) (decimal j)) (has_key (decimal j) ss) (units_same (decimal j) (decimal j) refl)
+  has_element {j = j} w a at_first (e_waits {ss = ss} u r) = or_left (same_units (decimal j) (decimal j)) (has_key (decimal j) ss) (units_same (decimal j) (decimal j) refl)
   has_element w a (at_next e) (e_hole r) = has_element w a e r
-  has_element {j = j} w a (at_next e) (e_same {i = i} {ss = ss} b r) = or_right (same_units_lem (decimal j) (decimal i)) (has_key (decimal j) ss) (has_element w a e r)
-  has_element {j = j} w a (at_next e) (e_waits {i = i} {ss = ss} u r) = or_right (same_units_lem (decimal j) (decimal i)) (has_key (decimal j) ss) (has_element w a e r)
+  has_element {j = j} w a (at_next e) (e_same {i = i} {ss = ss} b r) = or_right (same_units (decimal j) (decimal i)) (has_key (decimal j) ss) (has_element w a e r)
+  has_element {j = j} w a (at_next e) (e_waits {i = i} {ss = ss} u r) = or_right (same_units (decimal j) (decimal i)) (has_key (decimal j) ss) (has_element w a e r)
 
   module _ (ls ls' : List Late) (j : ℕ) (w : Val) (small : j < 4294967296) where
     set_head : (i : ℕ) (v : Value) (old : Val) (ps : List Part) (ss : List Slot) → i < 4294967296 → (i ≡ j → Alike own v w) →
         ((i ≡ j → ⊥) → Elements own o ls' i (element v ∷ ps) (keyed (decimal i) old ∷ ss)) → Elements own o ls' (suc i) ps ss →
-        Elements own o ls' i (element v ∷ ps) (cond (same_units_lem (decimal j) (decimal i)) (keyed (decimal j) w) (keyed (decimal i) old) ∷ ss)
+        Elements own o ls' i (element v ∷ ps) (cond (same_units (decimal j) (decimal i)) (keyed (decimal j) w) (keyed (decimal i) old) ∷ ss)
     set_head i v old ps ss l new kept r =
         ⊎_elim
         (λ (e : i ≡ j). subst (λ z. Elements own o ls' i (element v ∷ ps) (z ∷ ss))
-        (ap (λ z. keyed (decimal z) w) e ∙ sym (cond-true (same_units_lem (decimal j) (decimal i)) (keyed (decimal j) w) (keyed (decimal i) old) (units_same (decimal j) (decimal i) (ap decimal (sym e)))))
+        (ap (λ z. keyed (decimal z) w) e ∙ sym (cond-true (same_units (decimal j) (decimal i)) (keyed (decimal j) w) (keyed (decimal i) old) (units_same (decimal j) (decimal i) (ap decimal (sym e)))))
         (e_same (new e) r))
         (λ (n : i ≡ j → ⊥). subst (λ z. Elements own o ls' i (element v ∷ ps) (z ∷ ss))
-        (sym (cond-false (same_units_lem (decimal j) (decimal i)) (keyed (decimal j) w) (keyed (decimal i) old) (units_apart (decimal j) (decimal i) (λ e. decimals_apart i j l small n (sym e)))))
+        (sym (cond-false (same_units (decimal j) (decimal i)) (keyed (decimal j) w) (keyed (decimal i) old) (units_apart (decimal j) (decimal i) (λ e. decimals_apart i j l small n (sym e)))))
         (kept n))
         (cases_eq i j)
 

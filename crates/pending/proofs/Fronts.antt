@@ -1,5 +1,5 @@
 -- Parts that are added one by one: those at the front are there, and the next follow-up in order adds the next part.
-use Rattle.std.proofs.Common.{◌≡◌, ℕ, suc, Bool, true, false, cond, List, [], ◌∷◌, ◌++◌, MatchBool, sym, refl, ap, ◌∙◌, subst, append_assoc, append_nil, arith}
+use Rattle.std.proofs.Common.{◌≡◌, ℕ, suc, Bool, true, false, cond, List, [], ◌∷◌, ◌++◌, MatchBool, sym, refl, ap, ◌∙◌, subst, append_assoc, append-nil, arith}
 use Rattle.std.specs.List.{AllByRecursion as All}
 use Rattle.dump.specs.Heaps as heaps
 use Rattle.dump.specs.Heaps.{Part, property, element, entry, member, below, cause}
@@ -71,7 +71,7 @@ parts_any own i j (cause v ∷ ps) ss f a = absurd (none_added f.0.0 (f.0.1 []))
 pub front_done : (own : Pairing) (ps : List Part) (ss : List Slot) → All Added ps → Front own [] ps ss → AlikeParts own 0 ps ss
 front_done own ps ss added f =
     subst (λ z. AlikeParts own 0 z ss)
-    (sym (append_nil f.front) ∙ ap (λ z. f.front ++ z) (sym (nothing f.back (all_behind Added f.front f.back (subst (All Added) f.parts added)) f.tasks)) ∙ sym f.parts)
+    (sym (append-nil f.front) ∙ ap (λ z. f.front ++ z) (sym (nothing f.back (all_behind Added f.front f.back (subst (All Added) f.parts added)) f.tasks)) ∙ sym f.parts)
     f.alike
   where
     nothing : (back : List Part) → All Added back → [] ≡ part_tasks back → back ≡ []

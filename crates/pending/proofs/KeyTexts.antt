@@ -4,17 +4,17 @@ use Rattle.std.proofs.lemmas.Fmt.{decimal_injective}
 use Rattle.std.proofs.lemmas.Bool.{cases_Bool, le-leb, true≢false, false≢true}
 use Rattle.dump.specs.Heaps.{Text, Key, index, name}
 use Rattle.numeral.specs.Digits.{are_digits, value_from, whole_digits, whole_within, index_of}
-use Rattle.numeral.specs.Words.{same_units_lem}
+use Rattle.numeral.specs.Words.{same_units}
 use Rattle.numeral.proofs.Laws.{same_units_lem}
 use Rattle.formed.specs.Formed.{KeyFormed, KeyBefore}
 use Rattle.speller.proofs.Decimals.{body_is, whole_is}
 use Rattle.evaluator.specs.Isomorphic.{key_text}
 
 -- texts with other units
-pub units_apart : (xs ys : List ℕ) → (xs ≡ ys → ⊥) → same_units_lem xs ys ≡ false
-units_apart xs ys n = ⊎_elim (λ (e : same_units_lem xs ys ≡ true). absurd (n ((same_units_lem xs ys).0 e))) (λ (e : same_units_lem xs ys ≡ false). e) (cases_Bool (same_units_lem xs ys))
+pub units_apart : (xs ys : List ℕ) → (xs ≡ ys → ⊥) → same_units xs ys ≡ false
+units_apart xs ys n = ⊎_elim (λ (e : same_units xs ys ≡ true). absurd (n ((same_units_lem xs ys).0 e))) (λ (e : same_units xs ys ≡ false). e) (cases_Bool (same_units xs ys))
 
-pub units_same : (xs ys : List ℕ) → xs ≡ ys → same_units_lem xs ys ≡ true
+pub units_same : (xs ys : List ℕ) → xs ≡ ys → same_units xs ys ≡ true
 units_same xs ys e = (same_units_lem xs ys).1 e
 
 -- a number up to a lower limit

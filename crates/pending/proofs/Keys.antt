@@ -5,7 +5,7 @@ use Rattle.std.proofs.lemmas.Bool.{cases_Bool, cases_eq, or_cases, and_parts, eq
 use Rattle.dump.specs.Heaps as heaps
 use Rattle.dump.specs.Heaps.{Text, Value}
 use Rattle.numeral.specs.Numerals.{is_big_int, whole_bits}
-use Rattle.numeral.specs.Words.{same_units_lem}
+use Rattle.numeral.specs.Words.{same_units}
 use Rattle.numeral.proofs.Laws.{same_units_lem}
 use Rattle.formed.specs.Formed.{ValueFormed, WholeFits, number_in, SameValueZero, Kept}
 use Rattle.speller.proofs.Floats.{bits_of, bits_below, cut_back}

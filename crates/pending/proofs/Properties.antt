@@ -5,7 +5,7 @@ use Rattle.std.proofs.ByRecursion.{All-weaker}
 use Rattle.std.proofs.lemmas.Bool.{or_left, or_right, both_ways, cond-true}
 use Rattle.dump.specs.Heaps as heaps
 use Rattle.dump.specs.Heaps.{Text, Value, Key, index, name, Part, property, element, entry, member, below, cause}
-use Rattle.numeral.specs.Words.{same_units_lem}
+use Rattle.numeral.specs.Words.{same_units}
 use Rattle.numeral.proofs.Laws.{same_units_lem}
 use Rattle.formed.specs.Formed as formed
 use Rattle.formed.specs.Formed.{KeyFormed, KeyBefore, PropertyFormed, PropertyBefore}
@@ -34,20 +34,20 @@ one_property n limit is_array ps k k' v v' l f i j e =
 module _ (own : Pairing) (o : ℕ) where
   -- a key that is among the parts is there
   has_property : {ls : List Late} {k : Key} {v : Value} {ps : List Part} {ss : List Slot} → In (property k v) ps → Properties own o ls ps ss → has_key (key_text k) ss ≡ true
-  has_property {k = k} here (p_same {ss = ss} a r) = or_left (same_units_lem (key_text k) (key_text k)) (has_key (key_text k) ss) (units_same (key_text k) (key_text k) refl)
-  has_property {k = k} here (p_waits {ss = ss} u r) = or_left (same_units_lem (key_text k) (key_text k)) (has_key (key_text k) ss) (units_same (key_text k) (key_text k) refl)
-  has_property {k = k} (there i) (p_same {k = k'} {ss = ss} a r) = or_right (same_units_lem (key_text k) (key_text k')) (has_key (key_text k) ss) (has_property i r)
-  has_property {k = k} (there i) (p_waits {k = k'} {ss = ss} u r) = or_right (same_units_lem (key_text k) (key_text k')) (has_key (key_text k) ss) (has_property i r)
+  has_property {k = k} here (p_same {ss = ss} a r) = or_left (same_units (key_text k) (key_text k)) (has_key (key_text k) ss) (units_same (key_text k) (key_text k) refl)
+  has_property {k = k} here (p_waits {ss = ss} u r) = or_left (same_units (key_text k) (key_text k)) (has_key (key_text k) ss) (units_same (key_text k) (key_text k) refl)
+  has_property {k = k} (there i) (p_same {k = k'} {ss = ss} a r) = or_right (same_units (key_text k) (key_text k')) (has_key (key_text k) ss) (has_property i r)
+  has_property {k = k} (there i) (p_waits {k = k'} {ss = ss} u r) = or_right (same_units (key_text k) (key_text k')) (has_key (key_text k) ss) (has_property i r)
 
   module _ (ls ls' : List Late) (t : Text) (w : Val) where
     set_head : (k : Key) (v : Value) (old : Val) (ps : List Part) (ss : List Slot) → (t ≡ key_text k → Alike own v w) →
         ((t ≡ key_text k → ⊥) → Properties own o ls' (property k v ∷ ps) (keyed (key_text k) old ∷ ss)) → Properties own o ls' ps ss →
-        Properties own o ls' (property k v ∷ ps) (cond (same_units_lem t (key_text k)) (keyed t w) (keyed (key_text k) old) ∷ ss)
-    set_head k v old ps ss new kept r = go (same_units_lem t (key_text k)) refl
+        Properties own o ls' (property k v ∷ ps) (cond (same_units t (key_text k)) (keyed t w) (keyed (key_text k) old) ∷ ss)
+    set_head k v old ps ss new kept r = go (same_units t (key_text k)) refl
       where
-        go : (b : Bool) → same_units_lem t (key_text k) ≡ b → Properties own o ls' (property k v ∷ ps) (cond b (keyed t w) (keyed (key_text k) old) ∷ ss)
+        go : (b : Bool) → same_units t (key_text k) ≡ b → Properties own o ls' (property k v ∷ ps) (cond b (keyed t w) (keyed (key_text k) old) ∷ ss)
         go true e = let d = (same_units_lem t (key_text k)).0 e in subst (λ z. Properties own o ls' (property k v ∷ ps) (keyed z w ∷ ss)) (sym d) (p_same (new d) r)
-        go false e = kept (λ d. both_ways (same_units_lem t (key_text k)) e (units_same t (key_text k) d))
+        go false e = kept (λ d. both_ways (same_units t (key_text k)) e (units_same t (key_text k) d))
 
     -- a key set in all places where it stands
     set_properties : {ps : List Part} {ss : List Slot} → ((k : Key) (v : Value) → In (property k v) ps → t ≡ key_text k → Alike own v w) →

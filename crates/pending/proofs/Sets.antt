@@ -5,7 +5,7 @@ use Rattle.std.proofs.lemmas.Bool.{or_left, or_right, true≢false, false≢true
 use Rattle.dump.specs.declared.kinds.ErrorName.{ErrorName}
 use Rattle.dump.specs.Heaps as heaps
 use Rattle.dump.specs.Heaps.{Text, Value, Key, index, name, Kind, boolean_object, number_object, bigint_object, string_object, plain, sparse, dense, map, set, Part, property, element, entry, member, below, cause, Heap}
-use Rattle.numeral.specs.Words.{same_units_lem}
+use Rattle.numeral.specs.Words.{same_units}
 use Rattle.formed.specs.Formed as formed
 use Rattle.formed.specs.Formed.{KeyFormed, PropertyFormed, ElementFormed, KindFormed, PartsFormed, ObjectFormed, Formed}
 use Rattle.planner.specs.Visits.{object_at}
@@ -159,7 +159,7 @@ module _ (own : Pairing) (o : ℕ) (K L : List Late) (l : Late) (k : Key) (v : V
         )
       where
         other : {u v : Value} → sets (name (codes "cause")) u ≡ sets (name (codes "stack")) v → ⊥
-        other y = let z : codes "cause" ≡ codes "stack" = cc in true≢false (ap (same_units_lem (codes "cause")) z)
+        other y = let z : codes "cause" ≡ codes "stack" = cc in true≢false (ap (same_units (codes "cause")) z)
 
     message_in_lem : (stack : Option Text) (w : Val) → Alike own (stack_value stack) w → message_in w ≡ Some stack
     message_in_lem None w a = ap message_in a
@@ -179,7 +179,7 @@ module _ (own : Pairing) (o : ℕ) (K L : List Late) (l : Late) (k : Key) (v : V
         )
       where
         other : {u v : Value} → sets (name (codes "stack")) u ≡ sets (name (codes "cause")) v → ⊥
-        other y = let z : codes "stack" ≡ codes "cause" = cc in true≢false (ap (same_units_lem (codes "stack")) z)
+        other y = let z : codes "stack" ≡ codes "cause" = cc in true≢false (ap (same_units (codes "stack")) z)
 
   error_mended : (h : Heap) (order : List ℕ) (t n : ℕ) (e : ErrorName) (message stack : Option Text) (ps : List Part) (sh : Shape) (ss : List Slot) → PartsFormed h n (heaps.error e message stack) ps →
       In l (lates_by h order o t (heaps.error e message stack) ps) → Failure own o (K ++ (l ∷ L)) e message stack ps sh ss → Mended (heaps.error e message stack) ps sh ss

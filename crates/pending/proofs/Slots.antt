@@ -5,10 +5,10 @@ use Rattle.std.proofs.lemmas.Bool.{cases_Bool, or_parts, and_from, not_from_fals
 use Rattle.dump.specs.Heaps as heaps
 use Rattle.dump.specs.Heaps.{Text, Value, Key, index, name, Part, property, element, entry, member, below, cause}
 use Rattle.numeral.specs.Digits.{index_of}
-use Rattle.numeral.specs.Words.{same_units_lem}
+use Rattle.numeral.specs.Words.{same_units}
 use Rattle.formed.specs.Formed.{KeyFormed, KeyBefore, PropertyFormed, PropertyBefore}
 use Rattle.evaluator.specs.Options.{when}
-use Rattle.evaluator.specs.Stores.{Val, Shape, array, Slot, keyed, pair, single, Obj, key_is, has_key, set_key, index_below_lem, slot_index, insert_index, add_key, with_key}
+use Rattle.evaluator.specs.Stores.{Val, Shape, array, Slot, keyed, pair, single, Obj, key_is, has_key, set_key, index_below, slot_index, insert_index, add_key, with_key}
 use Rattle.evaluator.specs.Commands.{is_proto, assigned}
 use Rattle.evaluator.specs.Isomorphic.{Pairing, Alike, AlikeParts, key_text}
 use Rattle.rebuilds.specs.Pending.{In, here, there}
@@ -61,7 +61,7 @@ module _ (own : Pairing) (n limit : ℕ) (is_array : Bool) where
       AlikeParts own i ps ss → has_key t ss ≡ false
   lacks t i [] ss f other a = ap (has_key t) a
   lacks t i (property k v ∷ ps) ss f other a =
-      ap (has_key t) a.2 ∙ or_from (same_units_lem t (key_text k)) (has_key t a.1) (units_apart t (key_text k) (other k v here)) (lacks t i ps a.1 f.1 (λ k v u. other k v (there u)) a.4)
+      ap (has_key t) a.2 ∙ or_from (same_units t (key_text k)) (has_key t a.1) (units_apart t (key_text k) (other k v here)) (lacks t i ps a.1 f.1 (λ k v u. other k v (there u)) a.4)
   lacks t i (element v ∷ ps) ss f other a = no_other n limit is_array (element v) f.0 refl
   lacks t i (entry k v ∷ ps) ss f other a = no_other n limit is_array (entry k v) f.0 refl
   lacks t i (member v ∷ ps) ss f other a = no_other n limit is_array (member v) f.0 refl
@@ -74,12 +74,12 @@ module _ (own : Pairing) (n limit : ℕ) (is_array : Bool) where
   insert_last j v new i [] ss l f b a = ap (insert_index j new) a ∙ ap (λ z. z ++ (new ∷ [])) (sym a)
   insert_last j v new i (property k u ∷ ps) ss l f b a =
       ap (insert_index j new) a.2
-      ∙ cond-true (index_below_lem j (index_of (key_text k))) (keyed (key_text k) a.0 ∷ insert_index j new a.1) (new ∷ keyed (key_text k) a.0 ∷ a.1) (before k (key_formed n limit is_array k u f.0) (b.0 k (index j) u v refl refl))
+      ∙ cond-true (index_below j (index_of (key_text k))) (keyed (key_text k) a.0 ∷ insert_index j new a.1) (new ∷ keyed (key_text k) a.0 ∷ a.1) (before k (key_formed n limit is_array k u f.0) (b.0 k (index j) u v refl refl))
       ∙ ap (λ z. keyed (key_text k) a.0 ∷ z) (insert_last j v new i ps a.1 l f.1 b.1 a.4)
       ∙ ap (λ z. z ++ (new ∷ [])) (sym a.2)
     where
-      before : (k : Key) → KeyFormed limit is_array k → KeyBefore k (index j) → index_below_lem j (index_of (key_text k)) ≡ true
-      before (index m) f b = ap (index_below_lem j) (index_decimal m (omega arith)) ∙ lt-ltb m j b
+      before : (k : Key) → KeyFormed limit is_array k → KeyBefore k (index j) → index_below j (index_of (key_text k)) ≡ true
+      before (index m) f b = ap (index_below j) (index_decimal m (omega arith)) ∙ lt-ltb m j b
       before (name t) f b = absurd b
   insert_last j v new i (element u ∷ ps) ss l f b a = no_other n limit is_array (element u) f.0 refl
   insert_last j v new i (entry k u ∷ ps) ss l f b a = no_other n limit is_array (entry k u) f.0 refl
@@ -108,7 +108,7 @@ module _ (own : Pairing) (n limit : ℕ) (is_array : Bool) where
 
 -- what an array may be given
 abbrev may_assign : Text → ℕ → Option ℕ → Bool
-may_assign k n None = not (is_proto k) && not (same_units_lem k (codes "length"))
+may_assign k n None = not (is_proto k) && not (same_units k (codes "length"))
 may_assign k n (Some i) = ltb i n
 
 pub array_assigned : (n : ℕ) (k : Key) (w : Val) (ss : List Slot) → n ≤ 4294967295 → KeyFormed n true k → assigned (key_text k) w (array n) ss ≡ Some (record { shape = array n; slots = with_key (key_text k) w ss })
@@ -119,4 +119,4 @@ array_assigned n k w ss l f = ap (λ b. when b (Some (record { shape = array n; 
     may (name t) f =
         let p = f.2 refl in
         ap (may_assign t n) (no_index (index_of t) f.1)
-        ∙ and_from (not (is_proto t)) (not (same_units_lem t (codes "length"))) (not_from_false (is_proto t) (units_apart t (codes "__proto__") p.1)) (not_from_false (same_units_lem t (codes "length")) (units_apart t (codes "length") p.0))
+        ∙ and_from (not (is_proto t)) (not (same_units t (codes "length"))) (not_from_false (is_proto t) (units_apart t (codes "__proto__") p.1)) (not_from_false (same_units t (codes "length")) (units_apart t (codes "length") p.0))

@@ -7,7 +7,7 @@ use Rattle.formed.specs.Formed.{Formed}
 use Rattle.script.specs.Syntax as syntax
 use Rattle.script.specs.Syntax.{circular, new_typed, typed_part, braces, brackets, map_group, set_group, error_group, empty_map_form, empty_set_form, Expr, form, group, Items, none, item, keyed, pair}
 use Rattle.planner.specs.Visits.{refs, refs_of, edges_of, edges, object_at, mem}
-use Rattle.planner.specs.Names.{ViewContent, BufferContent, view_in_lem, buffer_in, viewed, pos, inlines, covers, backing, slot, has_name, ready_before}
+use Rattle.planner.specs.Names.{ViewContent, BufferContent, view_in, buffer_in, is_view, pos, inlines, covers, backing, slot, has_name, ready_before}
 use Rattle.planner.specs.Builds.{view_on, name_expr, value_expr, child_expr, element_items, items_of, on_named, on_inlined, view_by, view_expr, empty_or, kind_expr, object_expr, build_all, built}
 use Rattle.visits.proofs.Lists.{mem_left, mem_right, mem_head, split_at, once_before}
 use Rattle.visits.proofs.Orders.{place_split}
@@ -91,7 +91,7 @@ module _ (h : Heap) (order : List ℕ) (done done' : List Expr) (p : ℕ) (same 
   inlined_same : (o : ℕ) (v : ViewContent) (b : ℕ) (bytes : List ℕ) → pos h order b < p → on_inlined h order done o v b bytes ≡ on_inlined h order done' o v b bytes
   inlined_same o v b bytes lt =
       ap (λ e. cond (covers h order b o) (form (new_typed v.kind bytes))
-      (cond (viewed v.kind) (form (typed_part v.kind bytes (v.offset / width v.kind) (v.offset / width v.kind + v.count)))
+      (cond (is_view v.kind) (form (typed_part v.kind bytes (v.offset / width v.kind) (v.offset / width v.kind + v.count)))
       (view_on v.kind v.offset (cond (eqb (v.offset + v.count * width v.kind) (length bytes)) None (Some v.count)) (item e none))))
       (same (pos h order b) lt)
 
@@ -107,7 +107,7 @@ module _ (h : Heap) (order : List ℕ) (done done' : List Expr) (p : ℕ) (same 
   view_same o v [] g = refl
   view_same o v (b ∷ bs) g = view_by_same o v b (g b (mem_head b bs)) (buffer_in (object_at h b).kind)
 
-  kind_same : (o t : ℕ) (k : Kind) (ps : List Part) → Earlier (edges_of ps) → (is_some (view_in_lem k) ≡ true → (b : ℕ) → mem b (edges h o) ≡ true → pos h order b < p) → kind_expr h order done o t k ps ≡ kind_expr h order done' o t k ps
+  kind_same : (o t : ℕ) (k : Kind) (ps : List Part) → Earlier (edges_of ps) → (is_some (view_in k) ≡ true → (b : ℕ) → mem b (edges h o) ≡ true → pos h order b < p) → kind_expr h order done o t k ps ≡ kind_expr h order done' o t k ps
   kind_same o t (boolean_object v) ps g on = refl
   kind_same o t (number_object bits) ps g on = refl
   kind_same o t (bigint_object s) ps g on = refl

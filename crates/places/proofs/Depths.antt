@@ -12,15 +12,15 @@ use Rattle.formed.specs.Formed.{PropertyFormed, ElementFormed, EntryFormed, Memb
 use Rattle.script.specs.Texts.{all_zero}
 use Rattle.script.specs.Syntax.{circular, new_typed, Expr, form, Items, none, item, pair, Stmt, opening, const, last, return}
 use Rattle.planner.specs.Visits.{refs, edges_of, edges, object_at, mem}
-use Rattle.planner.specs.Names.{ViewContent, view_in_lem, buffer_in, viewed, kind_needs_name, pos, uses, turns, inlines, covers, backing, is_same, backed, slot, has_name, ready_before, first}
+use Rattle.planner.specs.Names.{ViewContent, view_in, buffer_in, is_view, kind_needs_name, pos, uses, turns, inlines, covers, backing, is_same, backed, slot, has_name, ready_before, first}
 use Rattle.planner.specs.Builds.{view_on, subarray_of, name_expr, value_expr, child_expr, element_items, items_of, buffer_expr, same_kind, on_named, on_inlined, view_by, view_expr, kind_expr, object_expr, build_all, built}
 use Rattle.planner.specs.Lates.{Task, sets, puts, adds, fills, Late}
-use Rattle.planner.specs.Lines.{Format, in_braces, target, has_line, expr_of, late_stmt, all_due, due_at, lines_at_lem, wrapped, stmts, depth, depths, stmt_depth, not_deep}
+use Rattle.planner.specs.Lines.{Format, in_braces, target, has_line, expr_of, late_stmt, all_due, due_at, lines_at, wrapped, stmts, depth, depths, stmt_depth, not_deep}
 use Rattle.visits.proofs.Lists.{mem_right, mem_head, once_before}
 use Rattle.visits.proofs.Orders.{place_split}
 use Rattle.rebuilds.specs.Adequate.{Adequate}
 use Rattle.rebuilds.specs.Makes.{written_parts, written_by, written}
-use Rattle.rebuilds.specs.Depths.{deepest, object_depth, depths_all, built_depths, value_depth, task_depth, due_depths, line_depth, line_depths, stmt_depths, none_deep_lem}
+use Rattle.rebuilds.specs.Depths.{deepest, object_depth, depths_all, built_depths, value_depth, task_depth, due_depths, line_depth, line_depths, stmt_depths, none_deep}
 use Rattle.effects.proofs.Options.{cases_option}
 use Rattle.places.proofs.Objects.{view_in_lem, formed_at, view_formed, view_edges, view_group}
 use Rattle.places.proofs.Names.{not_backed, resizable_not_backing, named_if, edge_buffer}
@@ -38,7 +38,7 @@ cond_depth true x y e f = e
 cond_depth false x y e f = f
 
 -- the test needs only the depths
-pub none_deep_lem : (i : ℕ) (ss : List Stmt) → not_deep i ss ≡ none_deep_lem i (lists.map stmt_depth ss)
+pub none_deep_lem : (i : ℕ) (ss : List Stmt) → not_deep i ss ≡ none_deep i (lists.map stmt_depth ss)
 none_deep_lem i [] = refl
 none_deep_lem i (s ∷ ss) = ap (cond (ltb 128 (stmt_depth s)) (refuse 12 0 i)) (none_deep_lem (suc i) ss)
 
@@ -84,7 +84,7 @@ module _ (h : Heap) (order : List ℕ) where
   on_named_lem : (k : ViewKind) (offset : ℕ) (n : Option ℕ) (b : ℕ) → depth (view_on k offset n (item (name_expr h order b) none)) ≡ 1
   on_named_lem k offset n b = let z = name_depth b in omega arith
 
-  subarray_depth : (n start end : ℕ) (to_end_lem : Bool) → depth (subarray_of n start end to_end_lem) ≡ 1
+  subarray_depth : (n start end : ℕ) (to_end : Bool) → depth (subarray_of n start end to_end) ≡ 1
   subarray_depth n start end true = refl
   subarray_depth n start end false = refl
 
@@ -98,13 +98,13 @@ module _ (h : Heap) (order : List ℕ) where
 
       other : Expr
       other =
-          cond (same_kind h order v.kind (view_in_lem (object_at h w).kind)) (subarray_of (slot h order w) (v.offset / width v.kind) (v.offset / width v.kind + v.count) ends)
+          cond (same_kind h order v.kind (view_in (object_at h w).kind)) (subarray_of (slot h order w) (v.offset / width v.kind) (v.offset / width v.kind + v.count) ends)
           (view_on v.kind v.offset (cond ends None (Some v.count)) (item (name_expr h order b) none))
 
       go : (t : Bool) → depth (cond t (form (new_typed v.kind bytes)) other) ≡ 1 + cond t 1 0
       go true = refl
       go false =
-          cond_depth (same_kind h order v.kind (view_in_lem (object_at h w).kind)) _ _ (subarray_depth (slot h order w) (v.offset / width v.kind) (v.offset / width v.kind + v.count) ends)
+          cond_depth (same_kind h order v.kind (view_in (object_at h w).kind)) _ _ (subarray_depth (slot h order w) (v.offset / width v.kind) (v.offset / width v.kind + v.count) ends)
           (on_named_lem v.kind v.offset (cond ends None (Some v.count)) b)
 
   pub deepest-++ : (done js ks : List ℕ) → deepest h order done (js ++ ks) ≡ max (deepest h order done js) (deepest h order done ks)
@@ -190,7 +190,7 @@ module _ (h : Heap) (order : List ℕ) where
         go false = refl
 
     -- every kind but a view
-    kind_depth : (n o t : ℕ) (k : Kind) (ps : List Part) → PartsFormed h n k ps → view_in_lem k ≡ None → depth (kind_expr h order done o t k ps) ≡ 1 + D (written_by h order t k ps)
+    kind_depth : (n o t : ℕ) (k : Kind) (ps : List Part) → PartsFormed h n k ps → view_in k ≡ None → depth (kind_expr h order done o t k ps) ≡ 1 + D (written_by h order t k ps)
     kind_depth n o t (boolean_object v) ps f e = refl
     kind_depth n o t (number_object bits) ps f e = refl
     kind_depth n o t (bigint_object s) ps f e = refl
@@ -210,7 +210,7 @@ module _ (h : Heap) (order : List ℕ) where
 
     -- a view on an inlined buffer, which stands inside
     inlined_depth : (o : ℕ) (v : ViewContent) (b : ℕ) (bytes : List ℕ) → depth (at_place done (pos h order b)) ≡ 1 → depth (on_inlined h order done o v b bytes) ≡ 2
-    inlined_depth o v b bytes e = cond_depth (covers h order b o) _ _ refl (cond_depth (viewed v.kind) _ _ refl (omega arith))
+    inlined_depth o v b bytes e = cond_depth (covers h order b o) _ _ refl (cond_depth (is_view v.kind) _ _ refl (omega arith))
 
   -- a view backs a buffer if it is the backing view of its own
   pub backs_own : (o b : ℕ) → edges h o ≡ b ∷ [] → is_some (backed h order o) ≡ is_same h order (backing h order b) o
@@ -225,7 +225,7 @@ module _ (h : Heap) (order : List ℕ) where
 
   -- a buffer that inlines has no name
   pub buffer_unnamed : (b : ℕ) (bytes : List ℕ) (maximum : Option ℕ) → (object_at h b).kind ≡ buffer bytes maximum → inlines h order b ≡ true → has_name h order b ≡ false
-  buffer_unnamed b bytes maximum e i = ap (λ t. not t || is_some (backed h order b)) i ∙ ap is_some (not_backed h order b (ap view_in_lem e))
+  buffer_unnamed b bytes maximum e i = ap (λ t. not t || is_some (backed h order b)) i ∙ ap is_some (not_backed h order b (ap view_in e))
 
   module _ (done : List Expr) (o : ℕ) (v : ViewContent) (b : ℕ) (bytes : List ℕ) where
     -- what the view o on the buffer b counts inside itself
@@ -266,16 +266,16 @@ module _ (h : Heap) (f : Formed h) (order : List ℕ) (ad : Adequate h order) wh
       ∙ ap (λ t. 1 + cond t 1 (deepest h order (lists.map depth done) (w.on ∷ []))) (backs_own h order o w.on es))))))
 
   -- what is no view
-  pub other_depth : (done : List ℕ) (x : ℕ) → view_in_lem (object_at h x).kind ≡ None → object_depth h order done x ≡ 1 + deepest h order done (written h order x)
+  pub other_depth : (done : List ℕ) (x : ℕ) → view_in (object_at h x).kind ≡ None → object_depth h order done x ≡ 1 + deepest h order done (written h order x)
   other_depth done x n = ap (λ w. 1 + cond (is_some w) 1 (deepest h order done (written h order x))) (not_backed h order x n)
 
   object_depth_lem : (done : List Expr) (o : ℕ) → Buffers done o → depth (object_expr h order done o) ≡ object_depth h order (lists.map depth done) o
   object_depth_lem done o g =
       ⊎_elim
-      (λ (n : view_in_lem (object_at h o).kind ≡ None).
+      (λ (n : view_in (object_at h o).kind ≡ None).
       kind_depth h order done (length h.objects) o (slot h order o) (object_at h o).kind (object_at h o).parts (formed_at h f o).1 n ∙ sym (other_depth (lists.map depth done) o n))
-      (λ (s : (v : ViewContent) × (view_in_lem (object_at h o).kind ≡ Some v)). view_object_depth done o s.0 g (view_in_lem (object_at h o).kind s.0 s.1))
-      (cases_option (view_in_lem (object_at h o).kind))
+      (λ (s : (v : ViewContent) × (view_in (object_at h o).kind ≡ Some v)). view_object_depth done o s.0 g (view_in_lem (object_at h o).kind s.0 s.1))
+      (cases_option (view_in (object_at h o).kind))
 
   -- the expression of a buffer
   built_buffer : (b : ℕ) (bytes : List ℕ) (maximum : Option ℕ) → mem b order ≡ true → (object_at h b).kind ≡ buffer bytes maximum → depth (at_place (built h order) (pos h order b)) ≡ 1
@@ -385,18 +385,18 @@ module _ (h : Heap) (f : Formed h) (order : List ℕ) (ad : Adequate h order) wh
       go false ih = ih
 
   -- the lines with what is due after each
-  pub line_depths_lem : (os : List ℕ) → lists.map stmt_depth (lines_at_lem h order os) ≡ line_depths h order os
+  pub line_depths_lem : (os : List ℕ) → lists.map stmt_depth (lines_at h order os) ≡ line_depths h order os
   line_depths_lem [] = refl
   line_depths_lem (o ∷ os) = go (has_line h order o) (line_depths_lem os)
     where
-      go : (b : Bool) → lists.map stmt_depth (lines_at_lem h order os) ≡ line_depths h order os →
-          lists.map stmt_depth (cond b (const (pos h order o) (get_or (built h order) (pos h order (target h order o)) (form circular)) ∷ (due_at h order (pos h order o) (all_due h order order) ++ lines_at_lem h order os)) (lines_at_lem h order os))
+      go : (b : Bool) → lists.map stmt_depth (lines_at h order os) ≡ line_depths h order os →
+          lists.map stmt_depth (cond b (const (pos h order o) (get_or (built h order) (pos h order (target h order o)) (form circular)) ∷ (due_at h order (pos h order o) (all_due h order order) ++ lines_at h order os)) (lines_at h order os))
           ≡ cond b (line_depth h order o ∷ (due_depths h order (pos h order o) (all_due h order order) ++ line_depths h order os)) (line_depths h order os)
       go true ih =
-          ap (λ n. n ∷ lists.map stmt_depth (due_at h order (pos h order o) (all_due h order order) ++ lines_at_lem h order os)) (line_depth_lem o)
+          ap (λ n. n ∷ lists.map stmt_depth (due_at h order (pos h order o) (all_due h order order) ++ lines_at h order os)) (line_depth_lem o)
           ∙ ap (λ ns. line_depth h order o ∷ ns)
-          (map-append stmt_depth (due_at h order (pos h order o) (all_due h order order)) (lines_at_lem h order os)
-          ∙ (ap (λ ns. ns ++ lists.map stmt_depth (lines_at_lem h order os)) (due_depths_lem (pos h order o) (all_due h order order))
+          (map-append stmt_depth (due_at h order (pos h order o) (all_due h order order)) (lines_at h order os)
+          ∙ (ap (λ ns. ns ++ lists.map stmt_depth (lines_at h order os)) (due_depths_lem (pos h order o) (all_due h order order))
           ∙ ap (λ ns. due_depths h order (pos h order o) (all_due h order order) ++ ns) ih))
       go false ih = ih
 
@@ -405,18 +405,18 @@ module _ (h : Heap) (f : Formed h) (order : List ℕ) (ad : Adequate h order) wh
   stmts_depths format = go (wrapped h order format)
     where
       -- the lines, and behind them one on the root
-      with_last : (s : Stmt) → stmt_depth s ≡ depth (expr_of h order h.root) → lists.map stmt_depth (lines_at_lem h order order ++ (s ∷ [])) ≡ line_depths h order order ++ (value_depth h order h.root ∷ [])
+      with_last : (s : Stmt) → stmt_depth s ≡ depth (expr_of h order h.root) → lists.map stmt_depth (lines_at h order order ++ (s ∷ [])) ≡ line_depths h order order ++ (value_depth h order h.root ∷ [])
       with_last s e =
-          map-append stmt_depth (lines_at_lem h order order) (s ∷ [])
+          map-append stmt_depth (lines_at h order order) (s ∷ [])
           ∙ (ap (λ ns. ns ++ (stmt_depth s ∷ [])) (line_depths_lem order) ∙ ap (λ n. line_depths h order order ++ (n ∷ [])) (e ∙ value_depth_lem h.root))
 
       go : (b : Bool) →
-          lists.map stmt_depth (cond b (opening ∷ (lines_at_lem h order order ++ (return (expr_of h order h.root) ∷ [])))
-          (lines_at_lem h order order ++ (last (in_braces (expr_of h order h.root)) (expr_of h order h.root) ∷ [])))
+          lists.map stmt_depth (cond b (opening ∷ (lines_at h order order ++ (return (expr_of h order h.root) ∷ [])))
+          (lines_at h order order ++ (last (in_braces (expr_of h order h.root)) (expr_of h order h.root) ∷ [])))
           ≡ cond b (0 ∷ (line_depths h order order ++ (value_depth h order h.root ∷ []))) (line_depths h order order ++ (value_depth h order h.root ∷ []))
       go true = ap (λ ns. 0 ∷ ns) (with_last (return (expr_of h order h.root)) refl)
       go false = with_last (last (in_braces (expr_of h order h.root)) (expr_of h order h.root)) refl
 
   -- the test on the numbers alone
-  pub not_deep_lem : (i : ℕ) (format : Format) → not_deep i (stmts h order format) ≡ none_deep_lem i (stmt_depths h order format)
-  not_deep_lem i format = none_deep_lem i (stmts h order format) ∙ ap (none_deep_lem i) (stmts_depths format)
+  pub not_deep_lem : (i : ℕ) (format : Format) → not_deep i (stmts h order format) ≡ none_deep i (stmt_depths h order format)
+  not_deep_lem i format = none_deep_lem i (stmts h order format) ∙ ap (none_deep i) (stmts_depths format)

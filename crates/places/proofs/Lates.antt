@@ -1,5 +1,5 @@
 -- The follow-ups of an object: each is its own and refers only to what it refers to; an object without a name has none, nor a view, nor a fixed buffer.
-use Rattle.std.proofs.Common.{◌≡◌, ℕ, zero, suc, Bool, true, false, cond, not, ◌&&◌, List, [], ◌∷◌, ◌++◌, length, take, drop, Some, None, codes, Option, sym, refl, ap, ◌∙◌, subst, ⊎_elim, append_assoc, append_nil, drop_of_length-le}
+use Rattle.std.proofs.Common.{◌≡◌, ℕ, zero, suc, Bool, true, false, cond, not, ◌&&◌, List, [], ◌∷◌, ◌++◌, length, take, drop, Some, None, codes, Option, sym, refl, ap, ◌∙◌, subst, ⊎_elim, append_assoc, append-nil, drop_of_length-le}
 use Rattle.std.proofs.lemmas.Bool.{and_from, or_parts, both_ways, cond-true, ltb-false}
 use Rattle.dump.specs.declared.kinds.ViewKind.{ViewKind}
 use Rattle.dump.specs.Heaps.{Text, Value, undefined, null, hole, boolean, whole, double, bigint, text, object, index, name, Kind, boolean_object, number_object, bigint_object, string_object, regexp, date, plain, sparse, dense, map, set, buffer, view, error, Part, property, element, entry, member, below, cause, Heap}
@@ -28,7 +28,7 @@ from_left o xs es l f = (f.0, λ j m. mem_left j xs es (f.1 j m))
 
 -- the references of one value, and of two
 pub refs_one : (v : Value) → refs v ≡ refs_of (v ∷ [])
-refs_one v = sym (append_nil (refs v))
+refs_one v = sym (append-nil (refs v))
 
 pub refs_two : (k v : Value) → refs k ++ refs v ≡ refs_of (k ∷ v ∷ [])
 refs_two k v = ap (λ z. refs k ++ z) (refs_one v)

@@ -1,13 +1,13 @@
 -- Names in an adequate order: a name is bound no later than its object's place, what has none inlines, its parts are ready, and what a backing view and its buffer have.
 use Rattle.std.proofs.Common.{◌≡◌, ℕ, ◌*◌, ◌<◌, ◌≤◌, Bool, true, false, cond, not, ◌&&◌, eqb, ltb, List, [], ◌∷◌, length, is_some, Some, None, Option, sym, refl, ap, ◌∙◌, subst, ⊎_elim, arith, eq-eqb, eqb-true}
-use Rattle.std.proofs.lemmas.Bool.{and_parts, or_parts, or_left, or_right, both_ways, not-true, not_false, not_from_false, ltb-false, lt-ltb, cond-true, or_cases}
+use Rattle.std.proofs.lemmas.Bool.{and_parts, or_parts, or_left, or_right, both_ways, not-true, not-false, not_from_false, ltb-false, lt-ltb, cond-true, or_cases}
 use Rattle.dump.specs.declared.kinds.ViewKind.{ViewKind}
 use Rattle.dump.specs.Heaps.{object, Kind, buffer, view, below, Heap}
 use Rattle.dump.specs.Kinds.{width}
 use Rattle.formed.specs.Formed.{Formed}
 use Rattle.planner.specs.Visits.{edges_of, edges, object_at, mem}
 use Rattle.planner.specs.Names as names
-use Rattle.planner.specs.Names.{first, viewed, ViewContent, BufferContent, view_in_lem, buffer_in, pos, inlines, is_on, spans, covers_buffer, covers, backing, is_same, backed, slot_by, slot, has_name, ready_before}
+use Rattle.planner.specs.Names.{first, is_view, ViewContent, BufferContent, view_in, buffer_in, pos, inlines, is_on, spans, covers_buffer, covers, backing, is_same, backed, slot_by, slot, has_name, ready_before}
 use Rattle.visits.proofs.Lists.{mem_head}
 use Rattle.rebuilds.specs.Adequate.{Adequate}
 use Rattle.places.proofs.Firsts.{first_some}
@@ -25,14 +25,14 @@ pub record Covered (h : Heap) (b w : ℕ) : Type 0 where
   pub buffer_is : (object_at h b).kind ≡ buffer bytes None
   pub view_is : (object_at h w).kind ≡ view kind 0 n false
   pub edge : mem b (edges h w) ≡ true
-  pub typed : viewed kind ≡ true
+  pub typed : is_view kind ≡ true
   pub covers : n * width kind ≡ length bytes
 
 module _ (h : Heap) (order : List ℕ) where
-  spans_view : (b w : ℕ) (bytes : List ℕ) → (object_at h b).kind ≡ buffer bytes None → mem b (edges h w) ≡ true → (v : Option ViewContent) → view_in_lem (object_at h w).kind ≡ v → spans h order (length bytes) v ≡ true → Covered h b w
+  spans_view : (b w : ℕ) (bytes : List ℕ) → (object_at h b).kind ≡ buffer bytes None → mem b (edges h w) ≡ true → (v : Option ViewContent) → view_in (object_at h w).kind ≡ v → spans h order (length bytes) v ≡ true → Covered h b w
   spans_view b w bytes e u None d s = absurd (both_ways false refl s)
   spans_view b w bytes e u (Some v) d s =
-      let p = and_parts (viewed v.kind) (eqb v.offset 0 && (not v.tracking && eqb (v.count * width v.kind) (length bytes))) s in
+      let p = and_parts (is_view v.kind) (eqb v.offset 0 && (not v.tracking && eqb (v.count * width v.kind) (length bytes))) s in
       let q = and_parts (eqb v.offset 0) (not v.tracking && eqb (v.count * width v.kind) (length bytes)) p.1 in
       let r = and_parts (not v.tracking) (eqb (v.count * width v.kind) (length bytes)) q.1 in
       let o = eqb-true v.offset 0 q.0 in
@@ -54,11 +54,11 @@ module _ (h : Heap) (order : List ℕ) where
       by_content : (c : Option BufferContent) → buffer_in (object_at h b).kind ≡ c → covers_buffer h order b c w ≡ true → Covered h b w
       by_content None d s = absurd (both_ways false refl s)
       by_content (Some c) d s =
-          let p = and_parts (not (is_some c.maximum)) (is_on h order b w && spans h order (length c.bytes) (view_in_lem (object_at h w).kind)) s in
-          let q = and_parts (is_on h order b w) (spans h order (length c.bytes) (view_in_lem (object_at h w).kind)) p.1 in
-          let r = and_parts (is_some (view_in_lem (object_at h w).kind)) (mem b (edges h w)) q.0 in
+          let p = and_parts (not (is_some c.maximum)) (is_on h order b w && spans h order (length c.bytes) (view_in (object_at h w).kind)) s in
+          let q = and_parts (is_on h order b w) (spans h order (length c.bytes) (view_in (object_at h w).kind)) p.1 in
+          let r = and_parts (is_some (view_in (object_at h w).kind)) (mem b (edges h w)) q.0 in
           let m = is_none c.maximum (not-true (is_some c.maximum) p.0) in
-          spans_view b w c.bytes (buffer_in_lem (object_at h b).kind c d ∙ ap (buffer c.bytes) m) r.1 (view_in_lem (object_at h w).kind) refl q.1
+          spans_view b w c.bytes (buffer_in_lem (object_at h b).kind c d ∙ ap (buffer c.bytes) m) r.1 (view_in (object_at h w).kind) refl q.1
 
   -- what backs a buffer covers it, and the buffer does not inline
   pub backing_covers : (b w : ℕ) → backing h order b ≡ Some w → (inlines h order b ≡ false) × (mem w order ≡ true) × (covers h order b w ≡ true)
@@ -82,10 +82,10 @@ module _ (h : Heap) (order : List ℕ) where
   backing_covered b w e = covers_covered b w (backing_covers b w e).2
 
   -- no view: it backs no buffer
-  pub not_backed : (x : ℕ) → view_in_lem (object_at h x).kind ≡ None → backed h order x ≡ None
+  pub not_backed : (x : ℕ) → view_in (object_at h x).kind ≡ None → backed h order x ≡ None
   not_backed x n =
       none_if (backed h order x)
-      (λ b e. let c = backing_covered b x (backed_edge x b e).1 in none_some (sym n ∙ ap view_in_lem c.view_is))
+      (λ b e. let c = backing_covered b x (backed_edge x b e).1 in none_some (sym n ∙ ap view_in c.view_is))
 
   -- no fixed buffer: it has no backing view
   pub not_backing : (x : ℕ) → ((bytes : List ℕ) → (object_at h x).kind ≡ buffer bytes None → ⊥) → backing h order x ≡ None
@@ -113,7 +113,7 @@ module _ (h : Heap) (order : List ℕ) where
   pub unnamed : (x : ℕ) → has_name h order x ≡ false → (inlines h order x ≡ true) × (backed h order x ≡ None)
   unnamed x e =
       let p = or_parts (not (inlines h order x)) (is_some (backed h order x)) e in
-      (not_false (inlines h order x) p.0, is_none (backed h order x) p.1)
+      (not-false (inlines h order x) p.0, is_none (backed h order x) p.1)
 
   pub unnamed_slot : (x : ℕ) → has_name h order x ≡ false → slot h order x ≡ pos h order x
   unnamed_slot x e = own_slot x (unnamed x e).1
@@ -129,7 +129,7 @@ module _ (h : Heap) (order : List ℕ) where
   pub unready : (t j : ℕ) → ready_before h order t (object j) ≡ false → (has_name h order j ≡ true) × (t ≤ slot h order j)
   unready t j e =
       let p = or_parts (not (has_name h order j)) (ltb (slot h order j) t) e in
-      (not_false (has_name h order j) p.0, ltb-false (slot h order j) t p.1)
+      (not-false (has_name h order j) p.0, ltb-false (slot h order j) t p.1)
 
 module _ (h : Heap) (f : Formed h) (order : List ℕ) (ad : Adequate h order) where
   -- the buffer of a view comes before it, and its name is bound at its place
@@ -142,7 +142,7 @@ module _ (h : Heap) (f : Formed h) (order : List ℕ) (ad : Adequate h order) wh
   -- an edge to a buffer
   pub edge_buffer : (x b : ℕ) (bytes : List ℕ) (maximum : Option ℕ) → mem x order ≡ true → mem b (edges h x) ≡ true → (object_at h b).kind ≡ buffer bytes maximum → OnBuffer x b
   edge_buffer x b bytes maximum m u e =
-      let n = not_backed h order b (ap view_in_lem e) in
+      let n = not_backed h order b (ap view_in e) in
       record {
         member = ad.closed x b m u;
         before = ad.leaf x b m u (buffer_edges h f b bytes maximum e);
@@ -158,15 +158,15 @@ module _ (h : Heap) (f : Formed h) (order : List ℕ) (ad : Adequate h order) wh
       (subst (λ y. (object_at h y).kind ≡ buffer v.bytes v.maximum) same v.on_buffer)
 
   -- the same of any edge of a view
-  pub view_edge : (x b : ℕ) → mem x order ≡ true → is_some (view_in_lem (object_at h x).kind) ≡ true → mem b (edges h x) ≡ true → OnBuffer x b
+  pub view_edge : (x b : ℕ) → mem x order ≡ true → is_some (view_in (object_at h x).kind) ≡ true → mem b (edges h x) ≡ true → OnBuffer x b
   view_edge x b m i u =
-      ⊎_elim (λ (e : view_in_lem (object_at h x).kind ≡ None). absurd (both_ways false refl (sym (ap is_some e) ∙ i)))
-      (λ (s : (v : ViewContent) × (view_in_lem (object_at h x).kind ≡ Some v)).
+      ⊎_elim (λ (e : view_in (object_at h x).kind ≡ None). absurd (both_ways false refl (sym (ap is_some e) ∙ i)))
+      (λ (s : (v : ViewContent) × (view_in (object_at h x).kind ≡ Some v)).
       let v = s.0 in
       let k = view_in_lem (object_at h x).kind v s.1 in
       let w = view_formed h f x v.kind v.offset v.count v.tracking k in
       let same = mem_one b w.on (subst (λ es. mem b es ≡ true) (view_edges h f x v.kind v.offset v.count v.tracking k) u) in
-      edge_buffer x b w.bytes w.maximum m u (ap (λ y. (object_at h y).kind) same ∙ w.on_buffer)) (cases_option (view_in_lem (object_at h x).kind))
+      edge_buffer x b w.bytes w.maximum m u (ap (λ y. (object_at h y).kind) same ∙ w.on_buffer)) (cases_option (view_in (object_at h x).kind))
 
   -- the buffer b with its backing view w
   pub record Backs (b w : ℕ) : Type 0 where
@@ -177,7 +177,7 @@ module _ (h : Heap) (f : Formed h) (order : List ℕ) (ad : Adequate h order) wh
     pub buffer_parts : (object_at h b).parts ≡ []
     pub view_is : (object_at h w).kind ≡ view kind 0 n false
     pub view_parts : (object_at h w).parts ≡ below b ∷ []
-    pub typed : viewed kind ≡ true
+    pub typed : is_view kind ≡ true
     pub covers : n * width kind ≡ length bytes
     pub member : mem w order ≡ true
     pub buffer_member : mem b order ≡ true
@@ -222,7 +222,7 @@ module _ (h : Heap) (f : Formed h) (order : List ℕ) (ad : Adequate h order) wh
         slot_buffer = on.slot_buffer;
         unbacked = on.unbacked;
         not_inlined = d.0;
-        apart = λ q. none_some (ap view_in_lem (sym c.buffer_is ∙ (ap (λ x. (object_at h x).kind) q ∙ c.view_is)));
+        apart = λ q. none_some (ap view_in (sym c.buffer_is ∙ (ap (λ x. (object_at h x).kind) q ∙ c.view_is)));
       }
 
   pub backs_of : (b w : ℕ) → mem w order ≡ true → backed h order w ≡ Some b → Backs b w

@@ -7,7 +7,7 @@ use Rattle.dump.specs.declared.kinds.ViewKind.{ViewKind}
 use Rattle.dump.specs.Heaps.{Kind, boolean_object, number_object, bigint_object, string_object, regexp, date, plain, sparse, dense, map, set, buffer, view, error, Part, below, nobody, Heap}
 use Rattle.formed.specs.Formed.{ViewFormed, KindFormed, PartsFormed, ObjectFormed, Formed}
 use Rattle.planner.specs.Visits.{edges_of, edges, object_at}
-use Rattle.planner.specs.Names.{ViewContent, BufferContent, view_in_lem, buffer_in}
+use Rattle.planner.specs.Names.{ViewContent, BufferContent, view_in, buffer_in}
 
 -- a kind without references
 abbrev pub is_bare : Kind → Bool
@@ -27,7 +27,7 @@ is_bare (view k offset n tracking) = false
 is_bare (error n message stack) = false
 
 -- the kind of what has the content of a view
-pub view_in_lem : (k : Kind) (v : ViewContent) → view_in_lem k ≡ Some v → k ≡ view v.kind v.offset v.count v.tracking
+pub view_in_lem : (k : Kind) (v : ViewContent) → view_in k ≡ Some v → k ≡ view v.kind v.offset v.count v.tracking
 view_in_lem (boolean_object b) v e = absurd (grind arith)
 view_in_lem (number_object bits) v e = absurd (grind arith)
 view_in_lem (bigint_object t) v e = absurd (grind arith)

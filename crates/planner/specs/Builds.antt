@@ -7,7 +7,7 @@ use Rattle.script.specs.Syntax as syntax
 use Rattle.script.specs.Syntax.{Form, named, buffer_of_named, circular, new_boolean, new_number, new_bigint, new_string, new_regexp, new_date, new_array, empty_map_form, empty_set_form, buffer_form, new_resizable, data_buffer, new_typed, typed_part, subarray, braces, brackets, map_group, set_group, error_group, view_group, Expr, value, form, group, Items, none, item, keyed, pair}
 use Rattle.script.specs.Texts.{all_zero}
 use Rattle.planner.specs.Visits.{edges, object_at}
-use Rattle.planner.specs.Names.{ViewContent, BufferContent, view_in_lem, buffer_in, viewed, pos, inlines, covers, backing, slot, has_name, ready_before, data_kind}
+use Rattle.planner.specs.Names.{ViewContent, BufferContent, view_in, buffer_in, is_view, pos, inlines, covers, backing, slot, has_name, ready_before, data_kind}
 
 -- kind, offset and length as they are written: an offset of 0 only before a length
 abbrev pub view_on : ViewKind → ℕ → Option ℕ → Items → Expr
@@ -15,8 +15,8 @@ view_on k offset n on = group (view_group k (cond (offset == 0 && not (is_some n
 
 -- a part of a backing view of the same kind
 abbrev pub subarray_of : ℕ → ℕ → ℕ → Bool → Expr
-subarray_of n start end to_end_lem =
-    cond to_end_lem (form (subarray n (cond (start == 0) None (Some start)) None)) (form (subarray n (Some start) (Some end)))
+subarray_of n start end to_end =
+    cond to_end (form (subarray n (cond (start == 0) None (Some start)) None)) (form (subarray n (Some start) (Some end)))
 
 module _ (h : Heap) (order : List ℕ) where
   abbrev pub name_expr : ℕ → Expr
@@ -73,7 +73,7 @@ module _ (h : Heap) (order : List ℕ) where
   on_named o v b bytes None = view_on v.kind v.offset (cond (v.offset + v.count * width v.kind == length bytes) None (Some v.count)) (item (name_expr b) none)
   on_named o v b bytes (Some w) =
       cond (o == w) (form (new_typed v.kind bytes))
-      (cond (same_kind v.kind (view_in_lem (object_at h w).kind))
+      (cond (same_kind v.kind (view_in (object_at h w).kind))
       (subarray_of (slot h order w) (v.offset / width v.kind) (v.offset / width v.kind + v.count) (v.offset + v.count * width v.kind == length bytes))
       (view_on v.kind v.offset (cond (v.offset + v.count * width v.kind == length bytes) None (Some v.count)) (item (name_expr b) none)))
 
@@ -81,7 +81,7 @@ module _ (h : Heap) (order : List ℕ) where
   abbrev pub on_inlined : List Expr → ℕ → ViewContent → ℕ → List ℕ → Expr
   on_inlined done o v b bytes =
       cond (covers h order b o) (form (new_typed v.kind bytes))
-      (cond (viewed v.kind) (form (typed_part v.kind bytes (v.offset / width v.kind) (v.offset / width v.kind + v.count)))
+      (cond (is_view v.kind) (form (typed_part v.kind bytes (v.offset / width v.kind) (v.offset / width v.kind + v.count)))
       (view_on v.kind v.offset (cond (v.offset + v.count * width v.kind == length bytes) None (Some v.count)) (item (slice_index_or done (pos h order b) (form circular)) none)))
 
   abbrev pub view_by : List Expr → ℕ → ViewContent → ℕ → Option BufferContent → Expr

@@ -53,14 +53,14 @@ module _ (h : Heap) (order : List ℕ) where
   due_at t (d ∷ ds) = cond (t == d.0) (late_stmt d.1 ∷ due_at t ds) (due_at t ds)
 
   -- each place with a line has it, and then the follow-ups that are due there
-  abbrev pub lines_at_lem : List ℕ → List Stmt
-  lines_at_lem [] = []
-  lines_at_lem (o ∷ os) =
-      cond (has_line o) (const (pos h order o) (slice_index_or (built h order) (pos h order (target o)) (form circular)) ∷ (due_at (pos h order o) (all_due order) ++ lines_at_lem os))
-      (lines_at_lem os)
+  abbrev pub lines_at : List ℕ → List Stmt
+  lines_at [] = []
+  lines_at (o ∷ os) =
+      cond (has_line o) (const (pos h order o) (slice_index_or (built h order) (pos h order (target o)) (form circular)) ∷ (due_at (pos h order o) (all_due order) ++ lines_at os))
+      (lines_at os)
 
   abbrev pub body : List Stmt
-  body = lines_at_lem order
+  body = lines_at order
 
   abbrev pub some_named : List ℕ → Bool
   some_named [] = false

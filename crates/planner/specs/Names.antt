@@ -23,19 +23,19 @@ abbrev pub first : (ℕ → Bool) → List ℕ → Option ℕ
 first p [] = None
 first p (x ∷ xs) = cond (p x) (Some x) (first p xs)
 
-abbrev pub viewed : ViewKind → Bool
-viewed Int8Array = true
-viewed Uint8Array = true
-viewed Uint8ClampedArray = true
-viewed Int16Array = true
-viewed Uint16Array = true
-viewed Int32Array = true
-viewed Uint32Array = true
-viewed Float32Array = true
-viewed Float64Array = true
-viewed BigInt64Array = true
-viewed BigUint64Array = true
-viewed DataView = false
+abbrev pub is_view : ViewKind → Bool
+is_view Int8Array = true
+is_view Uint8Array = true
+is_view Uint8ClampedArray = true
+is_view Int16Array = true
+is_view Uint16Array = true
+is_view Int32Array = true
+is_view Uint32Array = true
+is_view Float32Array = true
+is_view Float64Array = true
+is_view BigInt64Array = true
+is_view BigUint64Array = true
+is_view DataView = false
 
 -- what a view and a buffer are, none for another kind
 pub record ViewContent : Type 0 where
@@ -48,21 +48,21 @@ pub record BufferContent : Type 0 where
   pub bytes : List ℕ
   pub maximum : Option ℕ
 
-abbrev pub view_in_lem : Kind → Option ViewContent
-view_in_lem (boolean_object v) = None
-view_in_lem (number_object bits) = None
-view_in_lem (bigint_object t) = None
-view_in_lem (string_object t) = None
-view_in_lem (regexp t flags) = None
-view_in_lem (date time) = None
-view_in_lem plain = None
-view_in_lem (sparse n) = None
-view_in_lem (dense n) = None
-view_in_lem map = None
-view_in_lem set = None
-view_in_lem (buffer bytes maximum) = None
-view_in_lem (view k offset n tracking) = Some (record { kind = k; offset = offset; count = n; tracking = tracking })
-view_in_lem (error n message stack) = None
+abbrev pub view_in : Kind → Option ViewContent
+view_in (boolean_object v) = None
+view_in (number_object bits) = None
+view_in (bigint_object t) = None
+view_in (string_object t) = None
+view_in (regexp t flags) = None
+view_in (date time) = None
+view_in plain = None
+view_in (sparse n) = None
+view_in (dense n) = None
+view_in map = None
+view_in set = None
+view_in (buffer bytes maximum) = None
+view_in (view k offset n tracking) = Some (record { kind = k; offset = offset; count = n; tracking = tracking })
+view_in (error n message stack) = None
 
 abbrev pub buffer_in : Kind → Option BufferContent
 buffer_in (boolean_object v) = None
@@ -121,16 +121,16 @@ module _ (h : Heap) (order : List ℕ) where
 
   -- a view on b
   abbrev pub is_on : ℕ → ℕ → Bool
-  is_on b x = is_some (view_in_lem (object_at h x).kind) && mem b (edges h x)
+  is_on b x = is_some (view_in (object_at h x).kind) && mem b (edges h x)
 
   -- a view that is no DataView, starts at 0 and covers so many bytes
   abbrev pub spans : ℕ → Option ViewContent → Bool
   spans n None = false
-  spans n (Some v) = viewed v.kind && (v.offset == 0 && (not v.tracking && v.count * width v.kind == n))
+  spans n (Some v) = is_view v.kind && (v.offset == 0 && (not v.tracking && v.count * width v.kind == n))
 
   abbrev pub covers_buffer : ℕ → Option BufferContent → ℕ → Bool
   covers_buffer b None x = false
-  covers_buffer b (Some c) x = not (is_some c.maximum) && (is_on b x && spans (length c.bytes) (view_in_lem (object_at h x).kind))
+  covers_buffer b (Some c) x = not (is_some c.maximum) && (is_on b x && spans (length c.bytes) (view_in (object_at h x).kind))
 
   -- x is no DataView and covers the fixed buffer b
   abbrev pub covers : ℕ → ℕ → Bool
@@ -178,15 +178,15 @@ module _ (h : Heap) (order : List ℕ) where
   kind_or_bytes (Some v) = v.kind
 
   abbrev pub lists_in : ℕ → ℕ → Bool
-  lists_in b x = is_on b x && is_typed (view_in_lem (object_at h x).kind)
+  lists_in b x = is_on b x && is_typed (view_in (object_at h x).kind)
     where
       is_typed : Option ViewContent → Bool
       is_typed None = false
-      is_typed (Some v) = viewed v.kind
+      is_typed (Some v) = is_view v.kind
 
   abbrev pub data_kind_by : Option ℕ → ViewKind
   data_kind_by None = Uint8Array
-  data_kind_by (Some x) = kind_or_bytes (view_in_lem (object_at h x).kind)
+  data_kind_by (Some x) = kind_or_bytes (view_in (object_at h x).kind)
 
   abbrev pub data_kind : ℕ → ViewKind
   data_kind b = data_kind_by (first (lists_in b) order)

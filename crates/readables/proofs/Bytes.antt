@@ -12,7 +12,7 @@ use Rattle.formed.specs.Formed.{KindFormed, PartsFormed, ViewFormed, Formed}
 use Rattle.script.specs.Texts.{listing}
 use Rattle.evaluator.specs.Makes.{is_typed}
 use Rattle.planner.specs.Visits.{edges_of, edges, object_at, mem}
-use Rattle.planner.specs.Names.{first, viewed, ViewContent, view_in_lem, buffer_in, is_on, spans, covers_buffer, covers, lists_in, kind_or_bytes, data_kind_by, data_kind}
+use Rattle.planner.specs.Names.{first, is_view, ViewContent, view_in, buffer_in, is_on, spans, covers_buffer, covers, lists_in, kind_or_bytes, data_kind_by, data_kind}
 use Rattle.planner.specs.Lates.{bytes_kind}
 use Rattle.effects.specs.Readable.{Data, IsNumbers}
 use Rattle.readables.proofs.Writes.{formed_at}
@@ -42,7 +42,7 @@ width_least BigUint64Array = omega arith
 width_least DataView = omega arith
 
 -- no DataView is a typed array, and all others are
-pub typed_view_lem : (k : ViewKind) → is_typed k ≡ viewed k
+pub typed_view_lem : (k : ViewKind) → is_typed k ≡ is_view k
 typed_view_lem Int8Array = refl
 typed_view_lem Uint8Array = refl
 typed_view_lem Uint8ClampedArray = refl
@@ -95,7 +95,7 @@ pub record ViewFits (k : ViewKind) (offset count : ℕ) (bytes : List ℕ) : Typ
 abbrev pub BytesFormed : List ℕ → Type 0
 BytesFormed bytes = All (λ x. x < 256) bytes × (length bytes ≤ 1048576)
 
-pub bytes_data : (k : ViewKind) (bytes : List ℕ) → viewed k ≡ true → length bytes % width k ≡ 0 → BytesFormed bytes → Data k bytes
+pub bytes_data : (k : ViewKind) (bytes : List ℕ) → is_view k ≡ true → length bytes % width k ≡ 0 → BytesFormed bytes → Data k bytes
 bytes_data k bytes v e b = let l = b.1 in record { typed = typed_view_lem k ∙ v; small = omega arith; octets = b.0; even = e }
 
 pub octets_data : (bytes : List ℕ) → BytesFormed bytes → Data Uint8Array bytes
@@ -113,13 +113,13 @@ fits_count k offset count bytes v b =
 -- the content of a typed array
 abbrev typed_in : Option ViewContent → Bool
 typed_in None = false
-typed_in (Some v) = viewed v.kind
+typed_in (Some v) = is_view v.kind
 
 abbrev ViewOf : Kind → Type 0
 ViewOf kind = (v : ViewContent) × (kind ≡ view v.kind v.offset v.count v.tracking)
 
 -- a kind that has a view's content is a view
-view_of_lem : (kind : Kind) → is_some (view_in_lem kind) ≡ true → ViewOf kind
+view_of_lem : (kind : Kind) → is_some (view_in kind) ≡ true → ViewOf kind
 view_of_lem (heaps.boolean_object v) e = absurd (both_ways false refl e)
 view_of_lem (heaps.number_object bits) e = absurd (both_ways false refl e)
 view_of_lem (heaps.bigint_object t) e = absurd (both_ways false refl e)
@@ -162,15 +162,15 @@ module _ (h : Heap) (f : Formed h) where
     -- what lists the bytes of a buffer is a typed array on it
     listed_in : (x : ℕ) → lists_in h order b x ≡ true → Data (data_kind_by h order (Some x)) bytes
     listed_in x e =
-        let lists = and_parts (is_on h order b x) (typed_in (view_in_lem (object_at h x).kind)) e in
-        let on = and_parts (is_some (view_in_lem (object_at h x).kind)) (mem b (edges h x)) lists.0 in
+        let lists = and_parts (is_on h order b x) (typed_in (view_in (object_at h x).kind)) e in
+        let on = and_parts (is_some (view_in (object_at h x).kind)) (mem b (edges h x)) lists.0 in
         by_view_lem (view_of_lem (object_at h x).kind on.0) on.1 lists.1
       where
-        by_view_lem : ViewOf (object_at h x).kind → mem b (edges h x) ≡ true → typed_in (view_in_lem (object_at h x).kind) ≡ true → Data (data_kind_by h order (Some x)) bytes
+        by_view_lem : ViewOf (object_at h x).kind → mem b (edges h x) ≡ true → typed_in (view_in (object_at h x).kind) ≡ true → Data (data_kind_by h order (Some x)) bytes
         by_view_lem v m t =
             let fits = view_fits x b v.0.kind v.0.offset v.0.count v.0.tracking bytes maximum v.1 m c in
-            let typed : viewed v.0.kind ≡ true = subst (λ kind. typed_in (view_in_lem kind) ≡ true) v.1 t in
-            subst (λ (kind : Kind). Data (kind_or_bytes h order (view_in_lem kind)) bytes) (sym v.1) (bytes_data v.0.kind bytes typed fits.even (bytes_formed b bytes maximum c))
+            let typed : is_view v.0.kind ≡ true = subst (λ kind. typed_in (view_in kind) ≡ true) v.1 t in
+            subst (λ (kind : Kind). Data (kind_or_bytes h order (view_in kind)) bytes) (sym v.1) (bytes_data v.0.kind bytes typed fits.even (bytes_formed b bytes maximum c))
 
     listed_by : (x : Option ℕ) → FirstOk (lists_in h order b) x → Data (data_kind_by h order x) bytes
     listed_by None e = octets_data bytes (bytes_formed b bytes maximum c)
@@ -181,10 +181,10 @@ module _ (h : Heap) (f : Formed h) where
     kind_data = listed_by (first (lists_in h order b) order) (first_ok (lists_in h order b) order)
 
     -- what covers a buffer is a typed array
-    pub covers_view : (x : ℕ) (v : ViewContent) → view_in_lem (object_at h x).kind ≡ Some v → covers h order b x ≡ true → viewed v.kind ≡ true
+    pub covers_view : (x : ℕ) (v : ViewContent) → view_in (object_at h x).kind ≡ Some v → covers h order b x ≡ true → is_view v.kind ≡ true
     covers_view x v q e =
         let on_bytes : covers_buffer h order b (buffer_in (buffer bytes maximum)) x ≡ true = subst (λ kind. covers_buffer h order b (buffer_in kind) x ≡ true) c e in
-        let on = and_parts (not (is_some maximum)) (is_on h order b x && spans h order (length bytes) (view_in_lem (object_at h x).kind)) on_bytes in
-        let spanning = and_parts (is_on h order b x) (spans h order (length bytes) (view_in_lem (object_at h x).kind)) on.1 in
+        let on = and_parts (not (is_some maximum)) (is_on h order b x && spans h order (length bytes) (view_in (object_at h x).kind)) on_bytes in
+        let spanning = and_parts (is_on h order b x) (spans h order (length bytes) (view_in (object_at h x).kind)) on.1 in
         let all : spans h order (length bytes) (Some v) ≡ true = subst (λ z. spans h order (length bytes) z ≡ true) q spanning.1 in
-        (and_parts (viewed v.kind) (eqb v.offset 0 && (not v.tracking && eqb (v.count * width v.kind) (length bytes))) all).0
+        (and_parts (is_view v.kind) (eqb v.offset 0 && (not v.tracking && eqb (v.count * width v.kind) (length bytes))) all).0

@@ -11,7 +11,7 @@ use Rattle.formed.specs.Formed.{MaximumFits, MemberFormed, KindFormed, PartsForm
 use Rattle.script.specs.Syntax.{named, buffer_of_named, circular, buffer_form, data_buffer, new_typed, typed_part, subarray, view_group, Expr, form, Items, none, item, pair}
 use Rattle.script.specs.Texts.{all_zero}
 use Rattle.planner.specs.Visits.{edges_of, edges, object_at}
-use Rattle.planner.specs.Names.{ViewContent, view_in_lem, buffer_in, viewed, first, pos, inlines, covers, backing, slot, has_name, ready_before, data_kind}
+use Rattle.planner.specs.Names.{ViewContent, view_in, buffer_in, is_view, first, pos, inlines, covers, backing, slot, has_name, ready_before, data_kind}
 use Rattle.planner.specs.Builds.{view_on, subarray_of, name_expr, value_expr, child_expr, element_items, items_of, buffer_expr, same_kind, on_named, on_inlined, view_by, view_expr, kind_expr, object_expr, build_all, built}
 use Rattle.planner.specs.Lines.{kind_unspelled}
 use Rattle.rebuilds.specs.Adequate.{Adequate}
@@ -35,7 +35,7 @@ module _ (numeral : ℕ → Option (List ℕ)) where
   )
 
   -- an end is written only behind a start
-  subarray_readable : (n start end : ℕ) (to_end_lem : Bool) → Small n → Small start → Small end → ExprReadable numeral (subarray_of n start end to_end_lem)
+  subarray_readable : (n start end : ℕ) (to_end : Bool) → Small n → Small start → Small end → ExprReadable numeral (subarray_of n start end to_end)
   subarray_readable n start end true s a b = cond_both (eqb start 0) None (Some start) (λ z. FormReadable numeral (subarray n z None)) (λ e. s) (λ e. (s, a, tt))
   subarray_readable n start end false s a b = (s, a, b)
 
@@ -114,7 +114,7 @@ module _ (numeral : ℕ → Option (List ℕ)) where
       buffer_readable b bytes (Some n) c m = m
 
       -- the view o with content v on the buffer b
-      module _ (o b : ℕ) (v : ViewContent) (bytes : List ℕ) (viewed : view_in_lem (object_at h o).kind ≡ Some v) (fits : ViewFits v.kind v.offset v.count bytes) (formed : BytesFormed bytes) where
+      module _ (o b : ℕ) (v : ViewContent) (bytes : List ℕ) (viewed : view_in (object_at h o).kind ≡ Some v) (fits : ViewFits v.kind v.offset v.count bytes) (formed : BytesFormed bytes) where
         offset_small : Small v.offset
         offset_small = let l = fits_count v.kind v.offset v.count bytes fits formed in omega arith
 
@@ -132,7 +132,7 @@ module _ (numeral : ℕ → Option (List ℕ)) where
         on_readable left_out e r =
             view_on_readable v.kind v.offset (cond left_out None (Some v.count)) (item e none) offset_small (maybe_small left_out v.count count_small) (r, tt)
 
-        typed_data : viewed v.kind ≡ true → Data v.kind bytes
+        typed_data : is_view v.kind ≡ true → Data v.kind bytes
         typed_data t = bytes_data v.kind bytes t fits.even formed
 
         abbrev to_end_lem : Bool
@@ -143,12 +143,12 @@ module _ (numeral : ℕ → Option (List ℕ)) where
           named_readable None k = on_readable to_end_lem (name_expr h order b) (name_readable b)
           named_readable (Some w) k =
               cond_both (eqb o w) (form (new_typed v.kind bytes))
-              (cond (same_kind h order v.kind (view_in_lem (object_at h w).kind))
+              (cond (same_kind h order v.kind (view_in (object_at h w).kind))
               (subarray_of (slot h order w) (v.offset / width v.kind) (v.offset / width v.kind + v.count) to_end_lem)
               (view_on v.kind v.offset (cond to_end_lem None (Some v.count)) (item (name_expr h order b) none)))
               (ExprReadable numeral)
               (λ e. typed_data (covers_view h f order b bytes None c o v viewed (subst (λ z. covers h order b z ≡ true) (sym (eqb-true o w e)) k)))
-              (λ e. cond_both (same_kind h order v.kind (view_in_lem (object_at h w).kind))
+              (λ e. cond_both (same_kind h order v.kind (view_in (object_at h w).kind))
               (subarray_of (slot h order w) (v.offset / width v.kind) (v.offset / width v.kind + v.count) to_end_lem)
               (view_on v.kind v.offset (cond to_end_lem None (Some v.count)) (item (name_expr h order b) none))
               (ExprReadable numeral)
@@ -158,11 +158,11 @@ module _ (numeral : ℕ → Option (List ℕ)) where
           inlined_readable : ExprReadable numeral (on_inlined h order done o v b bytes)
           inlined_readable =
               cond_both (covers h order b o) (form (new_typed v.kind bytes))
-              (cond (viewed v.kind) (form (typed_part v.kind bytes (v.offset / width v.kind) (v.offset / width v.kind + v.count)))
+              (cond (is_view v.kind) (form (typed_part v.kind bytes (v.offset / width v.kind) (v.offset / width v.kind + v.count)))
               (view_on v.kind v.offset (cond to_end_lem None (Some v.count)) (item (get_or done (pos h order b) (form circular)) none)))
               (ExprReadable numeral)
               (λ e. typed_data (covers_view h f order b bytes None c o v viewed e))
-              (λ e. cond_both (viewed v.kind) (form (typed_part v.kind bytes (v.offset / width v.kind) (v.offset / width v.kind + v.count)))
+              (λ e. cond_both (is_view v.kind) (form (typed_part v.kind bytes (v.offset / width v.kind) (v.offset / width v.kind + v.count)))
               (view_on v.kind v.offset (cond to_end_lem None (Some v.count)) (item (get_or done (pos h order b) (form circular)) none))
               (ExprReadable numeral)
               (λ t. (typed_data t, start_small, end_small))
@@ -181,7 +181,7 @@ module _ (numeral : ℕ → Option (List ℕ)) where
           let g = view_formed h f o k offset count tracking e in
           subst (λ es. ExprReadable numeral (view_expr h order done o v es)) (ap edges_of (sym g.part))
           (subst (λ c. ExprReadable numeral (view_by h order done o v g.on c)) (ap buffer_in (sym g.on_buffer))
-          (by_readable o g.on v g.bytes (ap view_in_lem e) (record { even = g.even; inside = g.inside }) (bytes_formed h f g.on g.bytes g.maximum g.on_buffer) g.maximum g.on_buffer))
+          (by_readable o g.on v g.bytes (ap view_in e) (record { even = g.even; inside = g.inside }) (bytes_formed h f g.on g.bytes g.maximum g.on_buffer) g.maximum g.on_buffer))
 
       kind_readable : (o t n : ℕ) (k : Kind) (ps : List Part) → (object_at h o).kind ≡ k → KindFormed k → PartsFormed h n k ps → kind_unspelled numeral k ≡ false → All (PartWritable numeral) ps →
           ExprReadable numeral (kind_expr h order done o t k ps)

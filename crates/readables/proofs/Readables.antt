@@ -9,7 +9,7 @@ use Rattle.script.specs.Syntax.{circular, form, Stmt, opening, const, last, retu
 use Rattle.planner.specs.Names.{pos}
 use Rattle.planner.specs.Builds.{built}
 use Rattle.planner.specs.Lates.{Late, lates, due}
-use Rattle.planner.specs.Lines.{Format, in_braces, target, has_line, expr_of, late_stmt, all_due, due_at, lines_at_lem, body, wrapped, stmts, spelled_all}
+use Rattle.planner.specs.Lines.{Format, in_braces, target, has_line, expr_of, late_stmt, all_due, due_at, lines_at, body, wrapped, stmts, spelled_all}
 use Rattle.rebuilds.specs.Adequate.{Adequate}
 use Rattle.effects.specs.Readable.{ExprReadable, StmtReadable}
 use Rattle.readables.proofs.Places.{pos_small}
@@ -42,15 +42,15 @@ module _ (h : Heap) (numeral : ℕ → Option (List ℕ)) (order : List ℕ) (f 
       cond_both (eqb t d.0) (late_stmt h order d.1 ∷ due_at h order t ds) (due_at h order t ds) Stmts (λ e. (late_readable numeral h order f a s d.1 w.0, ih)) (λ e. ih)
 
   -- each line, and the follow-ups behind it
-  lines_at_lem : (os : List ℕ) → Stmts (lines_at_lem h order os)
+  lines_at_lem : (os : List ℕ) → Stmts (lines_at h order os)
   lines_at_lem [] = tt
   lines_at_lem (o ∷ os) =
       let ih = lines_at_lem os in
       let x = pos h order (target h order o) in
-      cond_both (has_line h order o) (const (pos h order o) (get_or (built h order) x (form circular)) ∷ (due_at h order (pos h order o) (all_due h order order) ++ lines_at_lem h order os)) (lines_at_lem h order os) Stmts
+      cond_both (has_line h order o) (const (pos h order o) (get_or (built h order) x (form circular)) ∷ (due_at h order (pos h order o) (all_due h order order) ++ lines_at h order os)) (lines_at h order os) Stmts
       (λ e. (
         (pos_small h order f a o, done_readable numeral h order f a (built h order) (built_readable numeral h order f a s) x),
-        All-append (StmtReadable numeral) (due_at h order (pos h order o) (all_due h order order)) (lines_at_lem h order os) (due_at_lem (pos h order o) (all_due h order order) (all_due_lem order)) ih,
+        All-append (StmtReadable numeral) (due_at h order (pos h order o) (all_due h order order)) (lines_at h order os) (due_at_lem (pos h order o) (all_due h order order) (all_due_lem order)) ih,
       ))
       (λ e. ih)
 

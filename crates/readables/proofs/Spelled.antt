@@ -1,7 +1,7 @@
 -- If no double is refused, every finite double of an object's kind, of a part and of the root has a numeral.
 use Rattle.std.proofs.Common.{◌≡◌, ℕ, suc, Bool, true, false, cond, not, ◌||◌, List, [], ◌∷◌, is_some, Some, None, Ok, Err, Option, Result, refl, ⊎_elim, arith}
 use Rattle.std.specs.List.{AllByRecursion as All}
-use Rattle.std.proofs.lemmas.Bool.{and_cases, not_false, or_parts, both_ways}
+use Rattle.std.proofs.lemmas.Bool.{and_cases, not-false, or_parts, both_ways}
 use Rattle.dump.specs.declared.refusal.Refusal.{Refusal}
 use Rattle.dump.specs.Rules.{refuse, and_then}
 use Rattle.dump.specs.Heaps.{Part, property, element, entry, member, below, cause, Object, Heap}
@@ -30,7 +30,7 @@ module _ (numeral : ℕ → Option (List ℕ)) where
   pub spelled : (bits : ℕ) → unspelled numeral bits ≡ false → Spelled numeral bits
   spelled bits u fin =
       ⊎_elim (λ (a : finite bits ≡ false). absurd (both_ways (finite bits) a fin))
-      (λ (a : not (is_some (numeral bits)) ≡ false). some_of (numeral bits) (not_false (is_some (numeral bits)) a))
+      (λ (a : not (is_some (numeral bits)) ≡ false). some_of (numeral bits) (not-false (is_some (numeral bits)) a))
       (and_cases (finite bits) (not (is_some (numeral bits))) u)
 
   objects_spelled_lem : (i : ℕ) (os : List Object) → objects_spelled numeral i os ≡ Ok tt → All (λ (o : Object). kind_unspelled numeral o.kind ≡ false) os

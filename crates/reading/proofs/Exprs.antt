@@ -1,9 +1,9 @@
 -- The trees of an expression give what it makes.
-use Rattle.std.proofs.Common.{◌≡◌, ℕ, Bool, true, false, cond, not, List, [], ◌∷◌, ◌++◌, length, Some, None, codes, Option, sym, refl, ap, ◌∙◌, subst, append_assoc, append_nil, arith}
+use Rattle.std.proofs.Common.{◌≡◌, ℕ, Bool, true, false, cond, not, List, [], ◌∷◌, ◌++◌, length, Some, None, codes, Option, sym, refl, ap, ◌∙◌, subst, append_assoc, append-nil, arith}
 use Rattle.dump.specs.declared.kinds.ViewKind.{ViewKind}
 use Rattle.dump.specs.declared.kinds.ErrorName.{ErrorName}
 use Rattle.dump.specs.Heaps.{Text, Key, index, name}
-use Rattle.numeral.specs.Words.{same_units_lem}
+use Rattle.numeral.specs.Words.{same_units}
 use Rattle.speller.specs.Spelling.{Lawful}
 use Rattle.script.specs.Syntax as syntax
 use Rattle.script.specs.Syntax.{braces, brackets, map_group, set_group, error_group, view_group, Expr, value, form, group, Items, none, item, keyed, pair}
@@ -13,7 +13,7 @@ use Rattle.evaluator.specs.Tokens.{string}
 use Rattle.evaluator.specs.Trees.{leaf, node, Trees, nil, cons}
 use Rattle.evaluator.specs.Stores as stores
 use Rattle.evaluator.specs.Stores.{Val, undefined, ref, ordinary, array, mapping, setting, error, Slot, single, Obj, State, Made, make, with_key, map_set}
-use Rattle.evaluator.specs.Makes.{key_in_lem, entries, entry, list_of, members, view_on}
+use Rattle.evaluator.specs.Makes.{key_in, entries, entry, list_of, members, view_on}
 use Rattle.evaluator.specs.Runs.{nothing, Listed, all_vals, element_slots, only_val, want_key, want_colon, eval_list, eval_key, eval_braces}
 use Rattle.evaluator.specs.Isomorphic.{key_text}
 use Rattle.effects.specs.Effects.{count, grown, KeysMade, PairsMade, map_from, somes, cause_key, offset_of, expr_made, row_made, keys_made, pairs_made, error_made, first_made}
@@ -95,12 +95,12 @@ module _ (numeral : ℕ → Option (List ℕ)) (reading : List ℕ → Option �
   -- keys in braces
   key_evals : (k : Key) → KeyReadable k → (s : State) → eval_key reading (key_tree k) s ≡ Some (record { key = key_text k; key_state = s })
   key_evals (index n) r s =
-      ap (λ z. and_then z (λ l. and_then (and_then (only_val l.vals) key_in_lem) (λ k. Some (record { key = k; key_state = l.state }))))
+      ap (λ z. and_then z (λ l. and_then (and_then (only_val l.vals) key_in) (λ k. Some (record { key = k; key_state = l.state }))))
       (give_last reading (one (number_tree n)) [] s (record { val = count n; state = s }) (number_gives numeral reading lawful inverse n r s))
       ∙ ap (λ z. and_then z (λ k. Some (record { key = k; key_state = s }))) (key_in_lem n (omega arith))
-  key_evals (name t) r s = go (same_units_lem t (codes "__proto__")) refl
+  key_evals (name t) r s = go (same_units t (codes "__proto__")) refl
     where
-      go : (b : Bool) → same_units_lem t (codes "__proto__") ≡ b → eval_key reading (cond b (node 91 (one (leaf (string t)))) (leaf (string t))) s ≡ Some (record { key = t; key_state = s })
+      go : (b : Bool) → same_units t (codes "__proto__") ≡ b → eval_key reading (cond b (node 91 (one (leaf (string t)))) (leaf (string t))) s ≡ Some (record { key = t; key_state = s })
       go true e = refl
       go false e = ap (λ b. when (not b) (Some (record { key = t; key_state = s }))) e
 
@@ -113,7 +113,7 @@ module _ (numeral : ℕ → Option (List ℕ)) (reading : List ℕ → Option �
       → Gives reading (new_trees (view_name k) (append_t ts (append_t (argument_trees o) (argument_trees n))) nil) s m
   view_gives k None None r ts s b m g e =
       give_new reading (view_name k) (append_t ts nil) s (record { vals = Some b.val ∷ []; state = b.state }) (b.val ∷ []) m
-      (ap (λ z. eval_list reading z nothing [] s) (trees.append_nil ts) ∙ give_last reading ts [] s b g) refl (view_whole k b.state b.val m e)
+      (ap (λ z. eval_list reading z nothing [] s) (trees.append-nil ts) ∙ give_last reading ts [] s b g) refl (view_whole k b.state b.val m e)
   view_gives k None (Some n) r ts s b m g e = absurd r
   view_gives k (Some o) None r ts s b m g e =
       give_new reading (view_name k) (append_t ts (cons comma (one (number_tree o)))) s (record { vals = Some b.val ∷ Some (count o) ∷ []; state = b.state }) (b.val ∷ count o ∷ []) m
@@ -181,7 +181,7 @@ module _ (numeral : ℕ → Option (List ℕ)) (reading : List ℕ → Option �
 
     rows_eval : (is : Items) → ItemsReadable numeral is → (vs : List (Option Val)) (s : State) (l : Listed) → row_made is s ≡ Some l
         → eval_list reading (row_trees numeral is) nothing vs s ≡ Some (record { vals = vs ++ l.vals; state = l.state })
-    rows_eval none r vs s l e = ap (λ z. Some (record { vals = z; state = s })) (sym (append_nil vs)) ∙ ap (λ z. Some (record { vals = vs ++ z.vals; state = z.state })) (some_is e)
+    rows_eval none r vs s l e = ap (λ z. Some (record { vals = z; state = s })) (sym (append-nil vs)) ∙ ap (λ z. Some (record { vals = vs ++ z.vals; state = z.state })) (some_is e)
     rows_eval (syntax.hole is) r vs s l e =
         let t = taken (row_made is s) _ l e in rows_eval is r (vs ++ (None ∷ [])) s t.0 t.1 ∙ more vs None t.0.vals t.0.state l (some_is t.2)
     rows_eval (item x is) r vs s l e =
@@ -206,7 +206,7 @@ module _ (numeral : ℕ → Option (List ℕ)) (reading : List ℕ → Option �
 
     pairs_eval : (is : Items) → ItemsReadable numeral is → (vs : List (Option Val)) (s : State) (p : PairsMade) → pairs_made is s ≡ Some p
         → eval_list reading (row_trees numeral is) nothing vs s ≡ Some (record { vals = vs ++ p.arrays; state = p.state })
-    pairs_eval none r vs s p e = ap (λ z. Some (record { vals = z; state = s })) (sym (append_nil vs)) ∙ ap (λ z. Some (record { vals = vs ++ z.arrays; state = z.state })) (some_is e)
+    pairs_eval none r vs s p e = ap (λ z. Some (record { vals = z; state = s })) (sym (append-nil vs)) ∙ ap (λ z. Some (record { vals = vs ++ z.arrays; state = z.state })) (some_is e)
     pairs_eval (syntax.hole is) r vs s p e = absurd (none_some e)
     pairs_eval (item x is) r vs s p e = absurd (none_some e)
     pairs_eval (keyed k x is) r vs s p e = absurd (none_some e)

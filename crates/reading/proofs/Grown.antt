@@ -5,7 +5,7 @@ use Rattle.dump.specs.Heaps as heaps
 use Rattle.dump.specs.Heaps.{Text, Value, Key, index, name}
 use Rattle.dump.specs.Kinds.{width}
 use Rattle.numeral.specs.Numerals.{finite}
-use Rattle.numeral.specs.Words.{same_units_lem}
+use Rattle.numeral.specs.Words.{same_units}
 use Rattle.script.specs.Items as items
 use Rattle.script.specs.Items.{Item, blanks, line_end}
 use Rattle.script.specs.Syntax as syntax
@@ -18,9 +18,9 @@ use Rattle.reading.specs.Trees.{append_t, one, comma, colon, word_tree, name_tre
 
 -- trees behind trees
 
-pub append_nil : (ts : Trees) → append_t ts nil ≡ ts
-append_nil nil = refl
-append_nil (cons t ts) = ap (cons t) (append_nil ts)
+pub append-nil : (ts : Trees) → append_t ts nil ≡ ts
+append-nil nil = refl
+append-nil (cons t ts) = ap (cons t) (append-nil ts)
 
 pub append_t_assoc : (ts us vs : Trees) → append_t (append_t ts us) vs ≡ append_t ts (append_t us vs)
 append_t_assoc nil us vs = refl
@@ -36,7 +36,7 @@ snocs ts nil = ts
 snocs ts (cons t us) = snocs (snoc ts t) us
 
 pub snocs_append : (us ts : Trees) → snocs ts us ≡ append_t ts us
-snocs_append nil ts = sym (append_nil ts)
+snocs_append nil ts = sym (append-nil ts)
 snocs_append (cons t us) ts = snocs_append us (snoc ts t) ∙ push ts t us
 
 module _ (numeral : ℕ → Option (List ℕ)) where
@@ -205,7 +205,7 @@ module _ (numeral : ℕ → Option (List ℕ)) where
 
   key_grows : (k : Key) → Sprouts (key_items k) (one (key_tree k))
   key_grows (index n) rest ts st = ripe (one (key_tree (index n))) rest ts st
-  key_grows (name t) rest ts st = go (same_units_lem t (codes "__proto__"))
+  key_grows (name t) rest ts st = go (same_units t (codes "__proto__"))
     where
       go : (b : Bool) → grow (items_tokens numeral (cond b (items.mark 91 ∷ items.text t ∷ items.mark 93 ∷ []) (items.text t ∷ [])) ++ rest) (growing ts st)
           ≡ grow rest (growing (append_t ts (one (cond b (node 91 (one (leaf (string t)))) (leaf (string t))))) st)

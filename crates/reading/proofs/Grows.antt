@@ -1,5 +1,5 @@
 -- An expression only appends to the store: what was there stays, and names stay.
-use Rattle.std.proofs.Common.{◌≡◌, ℕ, ◌+◌, ◌-◌, ◌*◌, ◌/◌, ◌%◌, Bool, true, false, cond, eqb, List, [], ◌∷◌, ◌++◌, length, is_some, Some, None, Option, sym, refl, ap, ◌∙◌, subst, append_assoc, append_nil}
+use Rattle.std.proofs.Common.{◌≡◌, ℕ, ◌+◌, ◌-◌, ◌*◌, ◌/◌, ◌%◌, Bool, true, false, cond, eqb, List, [], ◌∷◌, ◌++◌, length, is_some, Some, None, Option, sym, refl, ap, ◌∙◌, subst, append_assoc, append-nil}
 use Rattle.dump.specs.declared.kinds.ViewKind.{ViewKind}
 use Rattle.dump.specs.declared.kinds.ErrorName.{ErrorName}
 use Rattle.dump.specs.Heaps.{Text}
@@ -8,7 +8,7 @@ use Rattle.script.specs.Syntax.{Form, named, buffer_of_named, circular, new_bool
 use Rattle.evaluator.specs.Options.{when}
 use Rattle.evaluator.specs.Stores as stores
 use Rattle.evaluator.specs.Stores.{Val, Shape, view, error, ordinary, array, mapping, setting, Slot, single, Obj, State, Made, made, make, lookup}
-use Rattle.evaluator.specs.Makes.{zeros, members, BufferHeld, ViewHeld, view_on, place_view_lem, buffer_at, view_at, subarray, subarray_of, part, count_in, index_in_lem, is_typed, width_of}
+use Rattle.evaluator.specs.Makes.{zeros, members, BufferHeld, ViewHeld, view_on, place_view, buffer_at, view_at, subarray, subarray_of, part, count_in, index_in, is_typed, width_of}
 use Rattle.evaluator.specs.Runs.{Listed, element_slots}
 use Rattle.effects.specs.Effects.{grown, plain_val, form_made, KeysMade, PairsMade, offset_of, expr_made, row_made, keys_made, pairs_made, error_made, first_made, typed_state, typed_made, typed_ref, some_args, count, maximum_key, cause_key, map_from, somes}
 use Rattle.effects.proofs.Options.{none_some, some_is, taken, when_taken}
@@ -18,7 +18,7 @@ abbrev pub Grew : State → State → Type 0
 Grew s t = (new : List Obj) × (t ≡ grown s new)
 
 pub grew_none : (s : State) → Grew s s
-grew_none s = ([], ap (λ z. record { objects = z; names = s.names }) (sym (append_nil s.objects)))
+grew_none s = ([], ap (λ z. record { objects = z; names = s.names }) (sym (append-nil s.objects)))
 
 pub grew_more : (s t u : State) → Grew s t → Grew t u → Grew s u
 grew_more s t u g h =
@@ -39,7 +39,7 @@ pub grew_make : (sh : Shape) (ss : List Slot) (s : State) (m : Made) → make sh
 grew_make sh ss s m e = grew_made _ s _ m (record { shape = sh; slots = ss } ∷ [], refl) e
 
 -- views
-place_view_lem : (k : ViewKind) (on : Val) (o : ℕ) (n : Option ℕ) (b : BufferHeld) (s : State) (m : Made) → place_view_lem k on o n b s ≡ Some m → Grew s m.state
+place_view_lem : (k : ViewKind) (on : Val) (o : ℕ) (n : Option ℕ) (b : BufferHeld) (s : State) (m : Made) → place_view k on o n b s ≡ Some m → Grew s m.state
 place_view_lem k on o (Some n) b s m e = grew_make _ _ s m (when_taken _ _ m e).1
 place_view_lem k on o None b s m e = go (is_some b.maximum) (when_taken _ _ m e).1
   where
@@ -55,8 +55,8 @@ grew_part v a b s m e = grew_view v.kind v.on (v.offset + a * width_of v.kind) (
 
 subarray_of_lem : (v : ViewHeld) (n : ℕ) (vs : List Val) (s : State) (m : Made) → subarray_of v n vs s ≡ Some m → Grew s m.state
 subarray_of_lem v n [] s m e = grew_part v 0 n s m e
-subarray_of_lem v n (a ∷ []) s m e = let t = taken (index_in_lem a) _ m e in grew_part v _ n s m t.2
-subarray_of_lem v n (a ∷ b ∷ []) s m e = let t = taken (index_in_lem a) _ m e in let u = taken (index_in_lem b) _ m t.2 in grew_part v _ _ s m u.2
+subarray_of_lem v n (a ∷ []) s m e = let t = taken (index_in a) _ m e in grew_part v _ n s m t.2
+subarray_of_lem v n (a ∷ b ∷ []) s m e = let t = taken (index_in a) _ m e in let u = taken (index_in b) _ m t.2 in grew_part v _ _ s m u.2
 subarray_of_lem v n (a ∷ b ∷ x ∷ xs) s m e = absurd (none_some e)
 
 pub grew_subarray : (v : Val) (vs : List Val) (s : State) (m : Made) → subarray v vs s ≡ Some m → Grew s m.state

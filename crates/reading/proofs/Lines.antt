@@ -1,5 +1,5 @@
 -- The tokens of a statement as trees.
-use Rattle.std.proofs.Common.{◌≡◌, ℕ, Bool, true, false, List, [], ◌∷◌, ◌++◌, Some, codes, Option, sym, ap, ◌∙◌, append_nil}
+use Rattle.std.proofs.Common.{◌≡◌, ℕ, Bool, true, false, List, [], ◌∷◌, ◌++◌, Some, codes, Option, sym, ap, ◌∙◌, append-nil}
 use Rattle.dump.specs.declared.kinds.ViewKind.{ViewKind}
 use Rattle.dump.specs.Heaps.{Key, index, name}
 use Rattle.dump.specs.Kinds.{width}
@@ -21,7 +21,7 @@ module _ (numeral : ℕ → Option (List ℕ)) where
   Line is us = trees (items_tokens numeral is) ≡ Some us
 
   from : (is : List Item) (us : Trees) → grow (items_tokens numeral is ++ []) (growing nil []) ≡ Some (growing us []) → Line is us
-  from is us e = ap trees (sym (append_nil (items_tokens numeral is))) ∙ ap (λ z. and_then z grown) e
+  from is us e = ap trees (sym (append-nil (items_tokens numeral is))) ∙ ap (λ z. and_then z grown) e
 
   -- with one tree more at the end
   ended_by : (front : Trees → Trees) (us : Trees) (t : Tree) → ◌≡◌ {A = Option Growing} (Some (growing (front (snoc us t)) [])) (Some (growing (front (append_t us (one t))) []))

@@ -1,5 +1,5 @@
 -- Running the tokens of a statement does what the statement does.
-use Rattle.std.proofs.Common.{◌≡◌, ℕ, ◌-◌, Bool, true, false, cond, not, ◌&&◌, List, [], ◌∷◌, ◌++◌, length, take, drop, is_some, Some, None, codes, Option, sym, refl, ap, ◌∙◌, subst, append_nil, arith}
+use Rattle.std.proofs.Common.{◌≡◌, ℕ, ◌-◌, Bool, true, false, cond, not, ◌&&◌, List, [], ◌∷◌, ◌++◌, length, take, drop, is_some, Some, None, codes, Option, sym, refl, ap, ◌∙◌, subst, append-nil, arith}
 use Rattle.dump.specs.declared.kinds.ViewKind.{ViewKind}
 use Rattle.dump.specs.Heaps.{Text, Key, index, name}
 use Rattle.dump.specs.Kinds.{width}
@@ -13,7 +13,7 @@ use Rattle.evaluator.specs.Tokens.{Token, word, mark, break}
 use Rattle.evaluator.specs.Trees.{node, Trees, cons, trees}
 use Rattle.evaluator.specs.Stores as stores
 use Rattle.evaluator.specs.Stores.{Val, undefined, ref, bound, Obj, State, Made, made, lookup, change, place, object_of}
-use Rattle.evaluator.specs.Makes.{key_in_lem, set_pair, set_typed, add_one, call}
+use Rattle.evaluator.specs.Makes.{key_in, set_pair, set_typed, add_one, call}
 use Rattle.evaluator.specs.Commands.{assigned, Command, binds, assigns, does, gives, command, Ran, ran, solid, is_opening, is_closing, breaks_first, without_breaks}
 use Rattle.evaluator.specs.Runs.{evaluate, run_command, returned, run_tokens}
 use Rattle.evaluator.specs.Isomorphic.{key_text}
@@ -49,7 +49,7 @@ run_line_lem reading ts us c s o r t d =
 module _ (numeral : ℕ → Option (List ℕ)) (reading : List ℕ → Option ℕ) (lawful : Lawful numeral) (inverse : Inverse numeral reading) where
   -- the tokens of two texts
   tokens_both : (xs ys : List Item) → items_tokens numeral (xs ++ ys) ≡ items_tokens numeral xs ++ items_tokens numeral ys
-  tokens_both xs ys = sym (append_nil (items_tokens numeral (xs ++ ys))) ∙ (tokens_append numeral xs ys [] ∙ ap (λ z. items_tokens numeral xs ++ z) (append_nil (items_tokens numeral ys)))
+  tokens_both xs ys = sym (append-nil (items_tokens numeral (xs ++ ys))) ∙ (tokens_append numeral xs ys [] ∙ ap (λ z. items_tokens numeral xs ++ z) (append-nil (items_tokens numeral ys)))
 
   -- const
   reads_const : (base n : ℕ) (e : Expr) → StmtReadable numeral (const n e) → (s : State) (r : Ran) → stmt_done (const n e) s ≡ Some r → run_tokens reading (items_tokens numeral (stmt_items base (const n e))) s ≡ Some r
@@ -61,18 +61,18 @@ module _ (numeral : ℕ → Option (List ℕ)) (reading : List ℕ → Option �
       ∙ t.2)
 
   -- a key behind a name
-  access : (k : Key) → KeyReadable k → (s : State) → (v : Val) × (evaluate reading (access_trees k) s ≡ made v s) × (key_in_lem v ≡ Some (key_text k))
+  access : (k : Key) → KeyReadable k → (s : State) → (v : Val) × (evaluate reading (access_trees k) s ≡ made v s) × (key_in v ≡ Some (key_text k))
   access (index n) ok s = (count n, give_whole reading (one (number_tree n)) s (record { val = count n; state = s }) (number_gives numeral reading lawful inverse n ok s), key_in_lem n (omega arith))
   access (name t) ok s = (stores.text t, refl, refl)
 
-  assign_runs : (n : ℕ) (k e : Trees) (s : State) (target v : Val) (key : Text) (m : Made) (r : Ran) → lookup s.names n ≡ Some target → evaluate reading k s ≡ made v s → key_in_lem v ≡ Some key → evaluate reading e s ≡ Some m
+  assign_runs : (n : ℕ) (k e : Trees) (s : State) (target v : Val) (key : Text) (m : Made) (r : Ran) → lookup s.names n ≡ Some target → evaluate reading k s ≡ made v s → key_in v ≡ Some key → evaluate reading e s ≡ Some m
       → and_then (place target) (λ p. and_then (object_of m.state target) (λ o. and_then (assigned key m.val o.shape o.slots) (λ u. ran (change p u m.state) None))) ≡ Some r
       → run_command reading (assigns n k e) s ≡ Some r
   assign_runs n k e s target v key m r a b c d f =
       let g : Text → Made → Option Ran = λ x y. and_then (place target) (λ p. and_then (object_of y.state target) (λ o. and_then (assigned x y.val o.shape o.slots) (λ u. ran (change p u y.state) None))) in
-      ap (λ z. and_then z (λ t. and_then (evaluate reading k s) (λ y. and_then (key_in_lem y.val) (λ x. and_then (evaluate reading e y.state) (λ w.
+      ap (λ z. and_then z (λ t. and_then (evaluate reading k s) (λ y. and_then (key_in y.val) (λ x. and_then (evaluate reading e y.state) (λ w.
       and_then (place t) (λ p. and_then (object_of w.state t) (λ o. and_then (assigned x w.val o.shape o.slots) (λ u. ran (change p u w.state) None)))))))) a
-      ∙ (ap (λ z. and_then z (λ y. and_then (key_in_lem y.val) (λ x. and_then (evaluate reading e y.state) (g x)))) b
+      ∙ (ap (λ z. and_then z (λ y. and_then (key_in y.val) (λ x. and_then (evaluate reading e y.state) (g x)))) b
       ∙ (ap (λ z. and_then z (λ x. and_then (evaluate reading e s) (g x))) c
       ∙ (ap (λ z. and_then z (g key)) d ∙ f)))
 
@@ -188,7 +188,7 @@ module _ (numeral : ℕ → Option (List ℕ)) (reading : List ℕ → Option �
   reads_last base false e ok s r d =
       let t = taken (expr_made e s) _ r d in
       let ts : List Token = items_tokens numeral (expr_items e base) in
-      let h : starts ts ≡ true = ap starts (sym (append_nil ts)) ∙ expr_starts numeral lawful e ok.0 base [] in
+      let h : starts ts ≡ true = ap starts (sym (append-nil ts)) ∙ expr_starts numeral lawful e ok.0 base [] in
       run_line_lem reading ts (expr_trees numeral e) (gives (expr_trees numeral e)) s (not_opening ts h)
       (ap (λ b. when (b && (not (breaks_first (drop 1 (without_breaks ts))) && is_closing (drop (length (solid ts) - 4) (solid ts)))) (and_then (trees (take (length (solid ts) - 5) (drop 1 (solid ts)))) (λ x. run_command reading (gives x) s))) (not_return ts h))
       (last_trees_lem numeral base false e) (last_command numeral false e ok.1)

@@ -6,7 +6,7 @@ use Rattle.dump.specs.Heaps as heaps
 use Rattle.dump.specs.Heaps.{Value}
 use Rattle.numeral.specs.Digits.{is_digit, first_is, is_zero, positive_digits, whole_digits}
 use Rattle.numeral.specs.Numerals.{body, before_point, after_point, is_fraction, is_numeral, is_big_int, finite}
-use Rattle.numeral.specs.Words.{same_units_lem}
+use Rattle.numeral.specs.Words.{same_units}
 use Rattle.numeral.proofs.Laws.{pair_numeral}
 use Rattle.speller.specs.Spelling.{Lawful}
 use Rattle.formed.specs.Formed.{WholeFits}
@@ -127,18 +127,18 @@ module _ (numeral : ℕ → Option (List ℕ)) (lawful : Lawful numeral) where
 
 -- so a line that begins like this does not open a function, nor behind a bracket, and does not return
 
-no_round : (c : ℕ) (cs more : List ℕ) → begins (c ∷ cs) ≡ true → same_units_lem (c ∷ (cs ++ more)) (codes "( function ( ) { ") ≡ false
+no_round : (c : ℕ) (cs more : List ℕ) → begins (c ∷ cs) ≡ true → same_units (c ∷ (cs ++ more)) (codes "( function ( ) { ") ≡ false
 no_round c cs more h = and_left (eqb c 40) _ (not-true (eqb c 40) (and_parts (not (eqb c 40)) _ h).0)
 
-no_return : (c : ℕ) (cs more : List ℕ) → begins (c ∷ cs) ≡ true → same_units_lem (c ∷ (cs ++ more)) (codes "return ") ≡ false
+no_return : (c : ℕ) (cs more : List ℕ) → begins (c ∷ cs) ≡ true → same_units (c ∷ (cs ++ more)) (codes "return ") ≡ false
 no_return c cs more h = and_left (eqb c 114) _ (not-true (eqb c 114) (and_parts (not (eqb c 114)) _ (and_parts (not (eqb c 40)) _ h).1).0)
 
-no_function : (c : ℕ) (cs more : List ℕ) → begins (c ∷ cs) ≡ true → same_units_lem (c ∷ (cs ++ more)) (codes "function ( ) { ") ≡ false
+no_function : (c : ℕ) (cs more : List ℕ) → begins (c ∷ cs) ≡ true → same_units (c ∷ (cs ++ more)) (codes "function ( ) { ") ≡ false
 no_function c cs more h =
     ⊎_elim (λ n. and_left (eqb c 102) _ (not-true (eqb c 102) n)) (λ a. and_right (eqb c 102) _ (second cs a))
     (or_cases (not (eqb c 102)) (first_is 97 cs) (and_parts (not (eqb c 114)) _ (and_parts (not (eqb c 40)) _ h).1).1)
   where
-    second : (ds : List ℕ) → first_is 97 ds ≡ true → same_units_lem (ds ++ more) (codes "unction ( ) { ") ≡ false
+    second : (ds : List ℕ) → first_is 97 ds ≡ true → same_units (ds ++ more) (codes "unction ( ) { ") ≡ false
     second [] a = absurd (both_ways false refl a)
     second (d ∷ ds) a = and_left (eqb d 117) _ (let e = eqb-true d 97 a in ne_eqb d 117 (λ f. omega arith))
 

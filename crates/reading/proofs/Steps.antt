@@ -15,7 +15,7 @@ use Rattle.effects.specs.Effects.{array_made}
 use Rattle.reading.specs.Trees.{append_t, one, comma, word_tree, new_trees, member}
 use Rattle.reading.specs.Steps.{has_mark, eval_trees}
 use Rattle.effects.proofs.Options.{some_is, taken}
-use Rattle.reading.proofs.Grown.{append_nil}
+use Rattle.reading.proofs.Grown.{append-nil}
 
 pub mark_append : (c : ℕ) (ts us : Trees) → has_mark c ts ≡ false → has_mark c us ≡ false → has_mark c (append_t ts us) ≡ false
 mark_append c nil us a b = b
@@ -62,7 +62,7 @@ module _ (reading : List ℕ → Option ℕ) where
   give_comma ts rest vs s m g = list_past ts (cons comma rest) nothing vs s (record { partial = got m.val; after = m.state }) g.free g.evals
 
   pub give_last : (ts : Trees) (vs : List (Option Val)) (s : State) (m : Made) → Gives ts s m → eval_list reading ts nothing vs s ≡ Some (record { vals = vs ++ (Some m.val ∷ []); state = m.state })
-  give_last ts vs s m g = ap (λ z. eval_list reading z nothing vs s) (sym (append_nil ts)) ∙ list_past ts nil nothing vs s (record { partial = got m.val; after = m.state }) g.free g.evals
+  give_last ts vs s m g = ap (λ z. eval_list reading z nothing vs s) (sym (append-nil ts)) ∙ list_past ts nil nothing vs s (record { partial = got m.val; after = m.state }) g.free g.evals
 
   -- a value in braces, with a comma and without
   pub brace_comma : (ts rest : Trees) (k : Text) (ss : List Slot) (s : State) (m : Made) → Gives ts s m
@@ -72,7 +72,7 @@ module _ (reading : List ℕ → Option ℕ) where
   pub brace_last : (ts : Trees) (k : Text) (ss : List Slot) (s : State) (m : Made) → Gives ts s m
       → eval_braces reading ts (in_value k nothing) ss s ≡ Some (record { made_slots = with_key k m.val ss; then_state = m.state })
   brace_last ts k ss s m g =
-      ap (λ z. eval_braces reading z (in_value k nothing) ss s) (sym (append_nil ts)) ∙ braces_past ts nil k nothing ss s (record { partial = got m.val; after = m.state }) g.free g.evals
+      ap (λ z. eval_braces reading z (in_value k nothing) ss s) (sym (append-nil ts)) ∙ braces_past ts nil k nothing ss s (record { partial = got m.val; after = m.state }) g.free g.evals
 
   -- a value, before more
   pub give_then : (ts rest : Trees) (s : State) (m : Made) → Gives ts s m → eval_trees reading (append_t ts rest) nothing s ≡ eval_trees reading rest (got m.val) m.state

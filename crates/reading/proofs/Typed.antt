@@ -1,5 +1,5 @@
 -- The trees of typed arrays with data of their own give what they make.
-use Rattle.std.proofs.Common.{◌≡◌, ℕ, suc, ◌+◌, ◌-◌, ◌*◌, ◌/◌, ◌^◌, ◌<◌, ◌≤◌, Bool, true, false, cond, ◌&&◌, eqb, leb, List, [], ◌∷◌, ◌++◌, length, pos, negsuc, Some, codes, Option, sym, refl, ap, ◌∙◌, subst, append_assoc, append_nil, div-le_self, arith, length-append, pow_pos}
+use Rattle.std.proofs.Common.{◌≡◌, ℕ, suc, ◌+◌, ◌-◌, ◌*◌, ◌/◌, ◌^◌, ◌<◌, ◌≤◌, Bool, true, false, cond, ◌&&◌, eqb, leb, List, [], ◌∷◌, ◌++◌, length, pos, negsuc, Some, codes, Option, sym, refl, ap, ◌∙◌, subst, append_assoc, append-nil, div-le_self, arith, length-append, pow_pos}
 use Rattle.std.specs.List.{AllByRecursion as All}
 use Rattle.std.proofs.ByRecursion.{All-push}
 use Rattle.std.proofs.lemmas.Bool.{eqb-true, leb-true, and_parts}
@@ -52,7 +52,7 @@ module _ (reading : List ℕ → Option ℕ) where
   -- a list of bytes, each element with a comma
   list_evals : (minus big? : Bool) (w : ℕ) → Fits big? w → (bytes seen : List ℕ) → All (λ x. x < 256) seen → All (λ x. x < 256) bytes → (vs : List (Option Val)) (s : State)
       → eval_list reading (list_trees minus big? w seen bytes) nothing vs s ≡ Some (record { vals = vs ++ list_vals minus big? w seen bytes; state = s })
-  list_evals minus big? w fits [] seen os ob vs s = ap (λ z. Some (record { vals = z; state = s })) (sym (append_nil vs))
+  list_evals minus big? w fits [] seen os ob vs s = ap (λ z. Some (record { vals = z; state = s })) (sym (append-nil vs))
   list_evals minus big? w fits (x ∷ xs) seen os ob vs s = go (eqb (length seen + 1) w) refl (list_evals minus big? w fits xs [] tt ob.1) (list_evals minus big? w fits xs (seen ++ (x ∷ [])) (All-push (λ y. y < 256) seen x os ob.0) ob.1 vs s)
     where
       bs : List ℕ

@@ -5,7 +5,7 @@ use Rattle.dump.specs.Heaps as heaps
 use Rattle.dump.specs.Heaps.{Text, Value, Key, index, name}
 use Rattle.dump.specs.Kinds.{width}
 use Rattle.numeral.specs.Numerals.{finite}
-use Rattle.numeral.specs.Words.{same_units_lem}
+use Rattle.numeral.specs.Words.{same_units}
 use Rattle.script.specs.Items.{signed_decimal}
 use Rattle.script.specs.Syntax as syntax
 use Rattle.script.specs.Syntax.{Form, named, buffer_of_named, circular, new_boolean, new_number, new_bigint, new_string, new_regexp, new_date, new_array, empty_map_form, empty_set_form, buffer_form, new_resizable, data_buffer, new_typed, typed_part, subarray, braces, brackets, map_group, set_group, error_group, view_group, Expr, value, form, group, Items, none, item, keyed, pair}
@@ -97,7 +97,7 @@ first_trees (Some s) e = cons (number_tree s) (argument_trees e)
 -- a key in braces
 abbrev pub key_tree : Key → Tree
 key_tree (index n) = node 91 (one (number_tree n))
-key_tree (name t) = cond (same_units_lem t (codes "__proto__")) (node 91 (one (leaf (string t)))) (leaf (string t))
+key_tree (name t) = cond (same_units t (codes "__proto__")) (node 91 (one (leaf (string t)))) (leaf (string t))
 
 -- what stands in the square brackets behind a name
 abbrev pub access_trees : Key → Trees

@@ -12,7 +12,7 @@ use Rattle.shapes.specs.Rows.{words_ok, numbers_ok, bytes_ok}
 use Rattle.rules.specs.declared.role.PartRun.{PartRun}
 use Rattle.rules.specs.Texts.{text_rows, numeral_rules, numeral_row, numeral_rows}
 use Rattle.rules.specs.Cells.{root_rules, root_row}
-use Rattle.rules.specs.Objects.{object_rules, object_row, object_rows, parts_below, bytes_below_lem}
+use Rattle.rules.specs.Objects.{object_rules, object_row, object_rows, parts_below, bytes_below}
 use Rattle.rules.specs.Parts.{first_run, second_run, part_rules, part_row, part_run, object_parts, loose_run}
 use Rattle.rules.specs.Verdicts.{rows_of}
 use Rattle.rules.proofs.Sound.{object_passed, first_fits, second_fits}
@@ -83,7 +83,7 @@ row_placed b l i s g =
     record {
       numbers = p.numbers;
       known = known_kind (row_at b l i) four;
-      within = octets_within (row_at b l i) (bytes_below_lem b l i) l.octets.count p.octets;
+      within = octets_within (row_at b l i) (bytes_below b l i) l.octets.count p.octets;
     }
 
 -- a part of a run that passed

@@ -33,16 +33,16 @@ module _ (b : List ℕ) where
   MaybeFits None = Unit {0}
   MaybeFits (Some r) = RunFits r
 
-  abbrev pub value_in_lem : Value → meant.Value
-  value_in_lem Undefined = meant.undefined
-  value_in_lem Null = meant.null
-  value_in_lem Hole = meant.hole
-  value_in_lem (Boolean x) = meant.boolean x
-  value_in_lem (Whole n) = meant.whole n
-  value_in_lem (Double n) = meant.double n
-  value_in_lem (BigInt r) = meant.bigint (units_of b r)
-  value_in_lem (Text r) = meant.text (units_of b r)
-  value_in_lem (Object i) = meant.object i
+  abbrev pub value_in : Value → meant.Value
+  value_in Undefined = meant.undefined
+  value_in Null = meant.null
+  value_in Hole = meant.hole
+  value_in (Boolean x) = meant.boolean x
+  value_in (Whole n) = meant.whole n
+  value_in (Double n) = meant.double n
+  value_in (BigInt r) = meant.bigint (units_of b r)
+  value_in (Text r) = meant.text (units_of b r)
+  value_in (Object i) = meant.object i
 
   abbrev pub ValueFits : Value → Type 0
   ValueFits Undefined = Unit {0}
@@ -55,9 +55,9 @@ module _ (b : List ℕ) where
   ValueFits (Text r) = RunFits r
   ValueFits (Object i) = Unit {0}
 
-  abbrev pub key_in_lem : Key → meant.Key
-  key_in_lem (Index n) = meant.index n
-  key_in_lem (Name r) = meant.name (units_of b r)
+  abbrev pub key_in : Key → meant.Key
+  key_in (Index n) = meant.index n
+  key_in (Name r) = meant.name (units_of b r)
 
   abbrev pub KeyFits : Key → Type 0
   KeyFits (Index n) = Unit {0}
@@ -96,12 +96,12 @@ module _ (b : List ℕ) where
   KindFits (Error name message stack) = MaybeFits message × MaybeFits stack
 
   abbrev pub part_in : Part → meant.Part
-  part_in (Property k v) = meant.property (key_in_lem k) (value_in_lem v)
-  part_in (Element v) = meant.element (value_in_lem v)
-  part_in (Entry k v) = meant.entry (value_in_lem k) (value_in_lem v)
-  part_in (Member v) = meant.member (value_in_lem v)
+  part_in (Property k v) = meant.property (key_in k) (value_in v)
+  part_in (Element v) = meant.element (value_in v)
+  part_in (Entry k v) = meant.entry (value_in k) (value_in v)
+  part_in (Member v) = meant.member (value_in v)
   part_in (Below i) = meant.below i
-  part_in (Cause v) = meant.cause (value_in_lem v)
+  part_in (Cause v) = meant.cause (value_in v)
 
   abbrev pub PartFits : Part → Type 0
   PartFits (Property k v) = KeyFits k × ValueFits v

@@ -56,6 +56,6 @@ module _ (h : Heap) (order : List ℕ) where
       (line_depths order ++ (value_depth h.root ∷ []))
 
 -- the first number over 128 is refused with 12, the lines counted from i on
-abbrev pub none_deep_lem : ℕ → List ℕ → Result (Unit {0}) Refusal
-none_deep_lem i [] = Ok tt
-none_deep_lem i (d ∷ ds) = cond (nat_lt 128 d) (refuse 12 0 i) (none_deep_lem (suc i) ds)
+abbrev pub none_deep : ℕ → List ℕ → Result (Unit {0}) Refusal
+none_deep i [] = Ok tt
+none_deep i (d ∷ ds) = cond (nat_lt 128 d) (refuse 12 0 i) (none_deep (suc i) ds)

@@ -14,9 +14,9 @@ abbrev pub parts_below : List ℕ → Layout → ℕ → ℕ
 parts_below b l zero = 0
 parts_below b l (suc i) = parts_below b l i + parts_in (row_at b l i)
 
-abbrev pub bytes_below_lem : List ℕ → Layout → ℕ → ℕ
-bytes_below_lem b l zero = 0
-bytes_below_lem b l (suc i) = bytes_below_lem b l i + bytes_in (row_at b l i)
+abbrev pub bytes_below : List ℕ → Layout → ℕ → ℕ
+bytes_below b l zero = 0
+bytes_below b l (suc i) = bytes_below b l i + bytes_in (row_at b l i)
 
 -- 6: a BigInt has the text of one
 abbrev pub bigint_row : List ℕ → Layout → Row → Bool
@@ -27,7 +27,7 @@ object_rules b l i =
     rule 4 (words_ok (row_at b l i))
     ∷ rule 5 (numbers_ok l.texts.count l.objects.count (row_at b l i)
     && (runs_ok (row_at b l i) (parts_below b l i) l.parts.count
-    && bytes_ok (row_at b l i) (bytes_below_lem b l i) l.octets.count))
+    && bytes_ok (row_at b l i) (bytes_below b l i) l.octets.count))
     ∷ rule 6 (bigint_row b l (row_at b l i))
     ∷ rule 9 (limits_ok (row_at b l i))
     ∷ rule 10 (buffers_ok (row_at b l i) (row_at b l (row_at b l i).a))

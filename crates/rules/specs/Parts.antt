@@ -6,7 +6,7 @@ use Rattle.dump.specs.declared.row.Row.{Row}
 use Rattle.dump.specs.Places.{text_of, row_at, key_at, value_at}
 use Rattle.dump.specs.Rules.{Verdict, Rule, rule, judge, each, and_then, any_below}
 use Rattle.numeral.specs.Digits.{index_of}
-use Rattle.numeral.specs.Words.{same_units_lem}
+use Rattle.numeral.specs.Words.{same_units}
 use Rattle.rules.specs.declared.role.Role.{Role}
 use Rattle.rules.specs.declared.role.Role.TheVariants.{Property, Element, Entry, Member, Cause, Loose}
 use Rattle.rules.specs.declared.role.PartRun.{PartRun}
@@ -52,7 +52,7 @@ module _ (b : List ℕ) (l : Layout) where
 
   -- a key that array objects have or lack by themselves
   abbrev pub reserved : ℕ → Bool
-  reserved text = same_units_lem (text_of b l text) (codes "length") || same_units_lem (text_of b l text) (codes "__proto__")
+  reserved text = same_units (text_of b l text) (codes "length") || same_units (text_of b l text) (codes "__proto__")
 
   -- An index key is below the limit, and first or after a lower index key.
   abbrev pub index_ok : ℕ → ℕ → ℕ → Bool

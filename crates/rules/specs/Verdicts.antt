@@ -9,7 +9,7 @@ use Rattle.dump.specs.Places.{begin_of}
 use Rattle.dump.specs.Rules.{Verdict, refuse, and_then, each}
 use Rattle.rules.specs.Texts.{text_rows, numeral_rows}
 use Rattle.rules.specs.Cells.{root_row}
-use Rattle.rules.specs.Objects.{object_rows, parts_below, bytes_below_lem}
+use Rattle.rules.specs.Objects.{object_rows, parts_below, bytes_below}
 use Rattle.rules.specs.Parts.{object_parts, part_run, loose_run}
 
 -- Of `all` records of the section s the runs use so many: the first in no run is refused.
@@ -25,7 +25,7 @@ rows_of b l =
     and_then (part_run b l (loose_run b l)) (λ _.
     and_then (root_row b l) (λ _.
     and_then (all_used 2 (begin_of b l l.texts.count) l.units.count) (λ _.
-    and_then (all_used 4 (bytes_below_lem b l l.objects.count) l.octets.count) (λ _.
+    and_then (all_used 4 (bytes_below b l l.objects.count) l.octets.count) (λ _.
     all_used 6 (parts_below b l l.objects.count) l.parts.count))))))))
 
 -- the heap that a dump means, or why it is refused

@@ -46,8 +46,8 @@ spaces zero = []
 spaces (suc n) = 32 ∷ spaces n
 
 -- a double that is not finite
-abbrev pub not_finite_lem : ℕ → List ℕ
-not_finite_lem bits =
+abbrev pub not_finite : ℕ → List ℕ
+not_finite bits =
     cond (bits == 9218868437227405312) (codes "Infinity")
     (cond (bits == 18442240474082181120) (codes "-Infinity")
     (codes "NaN"))
@@ -63,7 +63,7 @@ module _ (numeral : ℕ → Option (List ℕ)) where
   before (mark c) rest = spelled (c ∷ []) rest
   before (text t) rest = spelled (literal t) rest
   before (whole z) rest = spelled (signed_decimal z) rest
-  before (double bits) rest = cond (finite bits) (or_cut bits (numeral bits) rest) (spelled (not_finite_lem bits) rest)
+  before (double bits) rest = cond (finite bits) (or_cut bits (numeral bits) rest) (spelled (not_finite bits) rest)
   before (bigint t) rest = spelled (t ++ (110 ∷ [])) rest
   before (hex minus n big) rest = spelled (cond minus (codes "-0x") (codes "0x") ++ hex_digits n ++ cond big (110 ∷ []) []) rest
   before (blanks n) rest = spelled (spaces n) rest

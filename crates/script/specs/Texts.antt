@@ -7,7 +7,7 @@ use Rattle.dump.specs.declared.kinds.ErrorName.TheVariants.{Error, EvalError, Ra
 use Rattle.dump.specs.Heaps as heaps
 use Rattle.dump.specs.Heaps.{Text, Value, Key, index, name}
 use Rattle.dump.specs.Kinds.{width}
-use Rattle.numeral.specs.Words.{same_units_lem}
+use Rattle.numeral.specs.Words.{same_units}
 use Rattle.script.specs.Items.{Item, word, mark, text, whole, double, bigint, hex, blanks, line_end, comment}
 use Rattle.script.specs.Syntax.{Form, named, buffer_of_named, circular, new_boolean, new_number, new_bigint, new_string, new_regexp, new_date, new_array, empty_map_form, empty_set_form, buffer_form, new_resizable, data_buffer, new_typed, typed_part, subarray, Group, braces, brackets, map_group, set_group, error_group, view_group, Expr, value, form, group, Items, none, hole, item, keyed, pair, Stmt, opening, const, assign, put, add, fill, last, return}
 
@@ -189,7 +189,7 @@ form_items (subarray n s e) l = name_item n ∷ mark 46 ∷ word (codes "subarra
 -- a key in braces: __proto__ as a text in square brackets, since without them it would set the prototype
 abbrev pub key_items : Key → List Item
 key_items (index n) = mark 91 ∷ number n ∷ mark 93 ∷ []
-key_items (name t) = cond (same_units_lem t (codes "__proto__")) (mark 91 ∷ text t ∷ mark 93 ∷ []) (text t ∷ [])
+key_items (name t) = cond (same_units t (codes "__proto__")) (mark 91 ∷ text t ∷ mark 93 ∷ []) (text t ∷ [])
 
 -- a key behind a name
 abbrev pub access_items : Key → List Item

@@ -1,5 +1,5 @@
 -- The follow-ups that are due at one place: each in its turn mends its object.
-use Rattle.std.proofs.Common.{◌≡◌, ℕ, suc, ◌+◌, ◌<◌, ◌≤◌, Bool, true, false, cond, not, ◌&&◌, ◌||◌, eqb, leb, ◌⊎◌, List, [], ◌∷◌, ◌++◌, Some, None, Option, sym, refl, ap, ◌∙◌, subst, inl, inr, ⊎_elim, append_assoc, append_nil, arith, eq-eqb, ne_eqb, eqb-true, le-leb, leb-false, leb-true}
+use Rattle.std.proofs.Common.{◌≡◌, ℕ, suc, ◌+◌, ◌<◌, ◌≤◌, Bool, true, false, cond, not, ◌&&◌, ◌||◌, eqb, leb, ◌⊎◌, List, [], ◌∷◌, ◌++◌, Some, None, Option, sym, refl, ap, ◌∙◌, subst, inl, inr, ⊎_elim, append_assoc, append-nil, arith, eq-eqb, ne_eqb, eqb-true, le-leb, leb-false, leb-true}
 use borrow.Author.Tests.{eqb-false, lt-leb}
 use Rattle.std.proofs.lemmas.Bool.{cases_Bool, cases_eq, cond-true, cond-false, both_ways, or_parts, or_from, or_right}
 use Rattle.dump.specs.Heaps.{object, Heap}
@@ -113,7 +113,7 @@ module _ (h : Heap) (f : Formed h) (order : List ℕ) (ad : Adequate h order) (l
     pub counts : (y : ℕ) → occ y adds ≡ makes y
 
   flushed_nil : (own : Pairing) (s : State) (left : ℕ → List Late) → Built h order own left (suc t) s → Flushed own s left [] (λ y. 0)
-  flushed_nil own s left b = record { adds = []; state = s; runs = refl; built = subst (λ z. Built h order z left (suc t) s) (sym (append_nil own)) b; counts = λ y. refl }
+  flushed_nil own s left b = record { adds = []; state = s; runs = refl; built = subst (λ z. Built h order z left (suc t) s) (sym (append-nil own)) b; counts = λ y. refl }
 
   -- one more follow-up of an object, where those behind it run
   module _ (X : ℕ) (m_x : mem X order ≡ true) (n_x : has_name h order X ≡ true) (left : ℕ → List Late) (still : (x : ℕ) → mem x order ≡ true → has_name h order x ≡ false → left x ≡ []) (d : ℕ × Late) (Dr Dk : List (ℕ × Late)) (e : due h order 0 (lates h order X) ≡ Dk ++ (d ∷ Dr)) where
@@ -141,7 +141,7 @@ module _ (h : Heap) (f : Formed h) (order : List ℕ) (ad : Adequate h order) (l
         (cond-true (eqb X X) (due_from (suc t) Dk ++ due_from t (d ∷ Dr)) (left X) (eq-eqb X X refl) ∙ ap (λ z. due_from (suc t) Dk ++ z) (from_keeps t d Dr (omega arith)))
         (λ o. from_unordered (suc t) Dk (λ c m i om. let a = due_sorted h order (lates h order X) Dk Dr d.0 c d.1 m e o i om in omega arith))
         (λ y. let a = fresh y in let c = makes y in omega arith) in
-        let kept : due_from (suc t) Dk ≡ due_from (suc t) (Dk ++ (d ∷ [])) = sym (from_append (suc t) Dk (d ∷ []) ∙ (ap (λ z. due_from (suc t) Dk ++ z) (from_drops (suc t) d [] (omega arith)) ∙ append_nil (due_from (suc t) Dk))) in
+        let kept : due_from (suc t) Dk ≡ due_from (suc t) (Dk ++ (d ∷ [])) = sym (from_append (suc t) Dk (d ∷ []) ∙ (ap (λ z. due_from (suc t) Dk ++ z) (from_drops (suc t) d [] (omega arith)) ∙ append-nil (due_from (suc t) Dk))) in
         let r = rest (own ++ g.adds) g.state
         (built_left (own ++ g.adds) (λ x. cond (eqb x X) (due_from (suc t) Dk ++ due_from t Dr) (After Dk (d ∷ Dr) x)) (After (Dk ++ (d ∷ [])) Dr) (suc t) g.state
         (λ x. choose (eqb x X) _ _ _ _ (λ z. ap (λ w. w ++ due_from t Dr) kept) (λ z. cond-false (eqb x X) (due_from (suc t) Dk ++ due_from t (d ∷ Dr)) (left x) z)) g.built)
@@ -184,7 +184,7 @@ module _ (h : Heap) (f : Formed h) (order : List ℕ) (ad : Adequate h order) (l
       → Flushed own s (λ x. cond (eqb x X) (due_from (suc t) (Dk ++ Dr)) (left x)) (due_at h order t Dr) (due_makes h order t Dr)
   flush_one X m_x n_x left still [] Dk e own s b fresh =
       flushed_nil own s (λ x. cond (eqb x X) (due_from (suc t) (Dk ++ [])) (left x))
-      (built_left own _ (λ x. cond (eqb x X) (due_from (suc t) (Dk ++ [])) (left x)) (suc t) s (λ x. choose (eqb x X) _ _ (left x) (left x) (λ q. append_nil (due_from (suc t) Dk) ∙ sym (ap (due_from (suc t)) (append_nil Dk))) (λ q. refl)) b)
+      (built_left own _ (λ x. cond (eqb x X) (due_from (suc t) (Dk ++ [])) (left x)) (suc t) s (λ x. choose (eqb x X) _ _ (left x) (left x) (λ q. append-nil (due_from (suc t) Dk) ∙ sym (ap (due_from (suc t)) (append-nil Dk))) (λ q. refl)) b)
   flush_one X m_x n_x left still (d ∷ Dr) Dk e own s b fresh =
       let rest : Rest X m_x n_x left still d Dr Dk e = λ own' s' b' fresh'. flush_one X m_x n_x left still Dr (Dk ++ (d ∷ [])) (e ∙ sym (append_assoc Dk (d ∷ []) Dr)) own' s' b' fresh' in
       ⊎_elim (λ (q : t ≡ d.0). flush_now X m_x n_x left still d Dr Dk e q own s b fresh rest) (λ (q : t ≡ d.0 → ⊥). flush_later X m_x n_x left still d Dr Dk e q own s b fresh rest) (cases_eq t d.0)

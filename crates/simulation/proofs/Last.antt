@@ -7,7 +7,7 @@ use Rattle.script.specs.Syntax.{Stmt, opening, last, return}
 use Rattle.planner.specs.Visits.{refs, mem}
 use Rattle.planner.specs.Names.{count, pos, slot, has_name}
 use Rattle.planner.specs.Lates.{Late, lates, due}
-use Rattle.planner.specs.Lines.{Format, expr_of, lines_at_lem, body, wrapped, in_braces, stmts}
+use Rattle.planner.specs.Lines.{Format, expr_of, lines_at, body, wrapped, in_braces, stmts}
 use Rattle.evaluator.specs.Options.{and_then}
 use Rattle.evaluator.specs.Stores.{Val, State, start}
 use Rattle.evaluator.specs.Commands.{Ran, ran}

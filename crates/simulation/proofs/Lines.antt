@@ -1,5 +1,5 @@
 -- Line by line: after the lines of the first places the store stands for what they build, and lacks just what is due later.
-use Rattle.std.proofs.Common.{◌≡◌, ℕ, suc, ◌+◌, ◌<◌, ◌≤◌, Bool, true, false, cond, not, ◌&&◌, ◌||◌, eqb, leb, ◌⊎◌, List, [], ◌∷◌, ◌++◌, length, get_or, is_some, Some, None, Option, sym, refl, ap, ◌∙◌, subst, inl, inr, ⊎_elim, append_assoc, append_nil, arith, length-append, eq-eqb, ne_eqb, eqb-true, leb-false, leb-true}
+use Rattle.std.proofs.Common.{◌≡◌, ℕ, suc, ◌+◌, ◌<◌, ◌≤◌, Bool, true, false, cond, not, ◌&&◌, ◌||◌, eqb, leb, ◌⊎◌, List, [], ◌∷◌, ◌++◌, length, get_or, is_some, Some, None, Option, sym, refl, ap, ◌∙◌, subst, inl, inr, ⊎_elim, append_assoc, append-nil, arith, length-append, eq-eqb, ne_eqb, eqb-true, leb-false, leb-true}
 use borrow.Author.Tests.{eqb-false}
 use Rattle.std.proofs.lemmas.Bool.{cases_Bool, cases_eq, cond-true, cond-false, both_ways, or_left, or_right, or_cases, and_parts}
 use Rattle.dump.specs.Heaps.{object, Heap}
@@ -9,7 +9,7 @@ use Rattle.planner.specs.Visits.{mem}
 use Rattle.planner.specs.Names.{count, pos, slot, has_name, backing, backed}
 use Rattle.planner.specs.Builds.{built}
 use Rattle.planner.specs.Lates.{Late, lates, due}
-use Rattle.planner.specs.Lines.{target, has_line, all_due, due_at, lines_at_lem}
+use Rattle.planner.specs.Lines.{target, has_line, all_due, due_at, lines_at}
 use Rattle.evaluator.specs.Options.{and_then, when, nth}
 use Rattle.evaluator.specs.Stores.{Val, ref, Bound, bound, State, lookup}
 use Rattle.evaluator.specs.Commands.{ran}
@@ -253,14 +253,14 @@ module _ (h : Heap) (f : Formed h) (order : List ℕ) (ad : Adequate h order) (l
       step_line = (own₂, k.state, leads_cons (const (pos h order o) (get_or (Rattle.planner.specs.Builds.built h order) (pos h order (target h order o)) (form circular))) (due_at h order (pos h order o) (all_due h order order)) s s₁ k.state runs₁ k.runs, sim₂)
 
     -- all lines from a place on
-    pub all_lines : (os done : List ℕ) → order ≡ done ++ os → (own : Pairing) (s : State) → Sim (length done) os own s → (own' : Pairing) × (s' : State) × Leads (lines_at_lem h order os) s s' × Sim (length order) [] own' s'
-    all_lines [] done e own s sim = (own, s, refl, subst (λ z. Sim z [] own s) (sym (ap length (e ∙ append_nil done))) sim)
+    pub all_lines : (os done : List ℕ) → order ≡ done ++ os → (own : Pairing) (s : State) → Sim (length done) os own s → (own' : Pairing) × (s' : State) × Leads (lines_at h order os) s s' × Sim (length order) [] own' s'
+    all_lines [] done e own s sim = (own, s, refl, subst (λ z. Sim z [] own s) (sym (ap length (e ∙ append-nil done))) sim)
     all_lines (o ∷ os) done e own s sim =
         let m : mem o order ≡ true = subst (λ z. mem o z ≡ true) (sym e) (mem_right o done (o ∷ os) (mem_head o os)) in
         let q : pos h order o ≡ length done = place_split o order done os e (once_before o order done os (ad.once o) e) in
         let sim' : Sim (pos h order o) (o ∷ os) own s = subst (λ z. Sim z (o ∷ os) own s) (sym q) sim in
         let n : suc (pos h order o) ≡ length (done ++ (o ∷ [])) = ap suc q ∙ sym (length-append done (o ∷ []) ∙ plus_one (length done)) in
-        let rest : (own' : Pairing) (s' : State) → Sim (suc (pos h order o)) os own' s' → (own'' : Pairing) × (s'' : State) × Leads (lines_at_lem h order os) s' s'' × Sim (length order) [] own'' s'' =
+        let rest : (own' : Pairing) (s' : State) → Sim (suc (pos h order o)) os own' s' → (own'' : Pairing) × (s'' : State) × Leads (lines_at h order os) s' s'' × Sim (length order) [] own'' s'' =
         λ own' s' z. all_lines os (done ++ (o ∷ [])) (e ∙ sym (append_assoc done (o ∷ []) os)) own' s' (subst (λ w. Sim w os own' s') n z) in
         ⊎_elim
         (λ (l : has_line h order o ≡ true).
@@ -268,15 +268,15 @@ module _ (h : Heap) (f : Formed h) (order : List ℕ) (ad : Adequate h order) (l
         let b = rest a.0 a.1 a.3 in (
           b.0,
           b.1,
-          subst (λ z. Leads z s b.1) (sym (cond-true (has_line h order o) (const (pos h order o) (get_or (Rattle.planner.specs.Builds.built h order) (pos h order (target h order o)) (form circular)) ∷ (due_at h order (pos h order o) (all_due h order order) ++ lines_at_lem h order os)) (lines_at_lem h order os) l))
-              (leads_append (const (pos h order o) (get_or (Rattle.planner.specs.Builds.built h order) (pos h order (target h order o)) (form circular)) ∷ due_at h order (pos h order o) (all_due h order order)) (lines_at_lem h order os) s a.1 b.1 a.2 b.2),
+          subst (λ z. Leads z s b.1) (sym (cond-true (has_line h order o) (const (pos h order o) (get_or (Rattle.planner.specs.Builds.built h order) (pos h order (target h order o)) (form circular)) ∷ (due_at h order (pos h order o) (all_due h order order) ++ lines_at h order os)) (lines_at h order os) l))
+              (leads_append (const (pos h order o) (get_or (Rattle.planner.specs.Builds.built h order) (pos h order (target h order o)) (form circular)) ∷ due_at h order (pos h order o) (all_due h order order)) (lines_at h order os) s a.1 b.1 a.2 b.2),
           b.3,
         ))
         (λ (l : has_line h order o ≡ false).
         let b = rest own s (step_none o os own s m l sim') in (
           b.0,
           b.1,
-          subst (λ z. Leads z s b.1) (sym (cond-false (has_line h order o) (const (pos h order o) (get_or (Rattle.planner.specs.Builds.built h order) (pos h order (target h order o)) (form circular)) ∷ (due_at h order (pos h order o) (all_due h order order) ++ lines_at_lem h order os)) (lines_at_lem h order os) l)) b.2,
+          subst (λ z. Leads z s b.1) (sym (cond-false (has_line h order o) (const (pos h order o) (get_or (Rattle.planner.specs.Builds.built h order) (pos h order (target h order o)) (form circular)) ∷ (due_at h order (pos h order o) (all_due h order order) ++ lines_at h order os)) (lines_at h order os) l)) b.2,
           b.3,
         ))
         (cases_Bool (has_line h order o))

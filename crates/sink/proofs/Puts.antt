@@ -1,5 +1,5 @@
 -- Puts in a row: by these a function that puts piece by piece shows what it put in all.
-use Rattle.std.proofs.Common.{◌≡◌, ℕ, suc, ◌+◌, ◌-◌, ◌^◌, ◌<◌, ◌≤◌, Bool, true, false, cond, leb, List, [], ◌∷◌, ◌++◌, length, get_or, take, drop, is_ok, is_err, IsErrAnd, Some, None, Ok, Err, Result, sym, refl, ap, ◌∙◌, subst, ⊎_elim, append_nil, arith, length-append, take-append-drop, take_all, le-leb}
+use Rattle.std.proofs.Common.{◌≡◌, ℕ, suc, ◌+◌, ◌-◌, ◌^◌, ◌<◌, ◌≤◌, Bool, true, false, cond, leb, List, [], ◌∷◌, ◌++◌, length, get_or, take, drop, is_ok, is_err, IsErrAnd, Some, None, Ok, Err, Result, sym, refl, ap, ◌∙◌, subst, ⊎_elim, append-nil, arith, length-append, take-append-drop, take_all, le-leb}
 use borrow.Author.Tests.{lt-leb, true-leb, false-leb, clash}
 use Rattle.std.proofs.lemmas.List.{take_more}
 use Rattle.std.proofs.lemmas.Result.{err_from_is_err_and}
@@ -100,7 +100,7 @@ module _ {K : Type 0} {m : Meaning K} where
       record {
         answers = p.answers ∙ sym (due_full (m.space k) (length xs) h) ∙ due_full (m.space k) (length (xs ++ ys)) (omega (arith, l, h));
         left = omega (arith, l, h, p.left);
-        goes = p.goes ∙ ap (run m.rule (m.state k)) (sym (append_nil (take (m.space k) xs)) ∙ ap (λ n. take (m.space k) xs ++ take n ys) z ∙ sym (take-append (m.space k) xs ys));
+        goes = p.goes ∙ ap (run m.rule (m.state k)) (sym (append-nil (take (m.space k) xs)) ∙ ap (λ n. take (m.space k) xs ++ take n ys) z ∙ sym (take-append (m.space k) xs ys));
         stays = p.stays;
         small = λ _. p.small (omega (arith, h));
       }

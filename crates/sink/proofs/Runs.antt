@@ -1,5 +1,5 @@
 -- States after bytes in a row.
-use Rattle.std.proofs.Common.{◌≡◌, ℕ, zero, suc, ◌+◌, ◌-◌, ◌%◌, ◌^◌, ◌<◌, List, [], ◌∷◌, ◌++◌, length, take, sym, refl, ap, ◌∙◌, append_assoc, append_nil, mod-eq_of_lt, arith, take_all}
+use Rattle.std.proofs.Common.{◌≡◌, ℕ, zero, suc, ◌+◌, ◌-◌, ◌%◌, ◌^◌, ◌<◌, List, [], ◌∷◌, ◌++◌, length, take, sym, refl, ap, ◌∙◌, append_assoc, append-nil, mod-eq_of_lt, arith, take_all}
 use Rattle.sink.specs.Meanings.{run}
 
 pub run_append : {S : Type 0} (rule : S → ℕ → S) (s : S) (xs ys : List ℕ) → run rule s (xs ++ ys) ≡ run rule (run rule s xs) ys
@@ -8,7 +8,7 @@ run_append rule s (x ∷ xs) ys = run_append rule (rule s x) xs ys
 
 -- what a page holds
 pub run_keeps : (s xs : List ℕ) → run (λ s b. s ++ b ∷ []) s xs ≡ s ++ xs
-run_keeps s [] = sym (append_nil s)
+run_keeps s [] = sym (append-nil s)
 run_keeps s (x ∷ xs) = run_keeps (s ++ x ∷ []) xs ∙ append_assoc s (x ∷ []) xs
 
 -- what a counter tells

@@ -8,7 +8,7 @@ use Rattle.rules.specs.Verdicts.{verdict}
 use Rattle.script.specs.Items.{Line, all, cut, line}
 use Rattle.script.specs.Texts.{stmt_items}
 use Rattle.planner.specs.Lines.{Format, Plan, planned}
-use Rattle.numeral.specs.Words.{same_units_lem}
+use Rattle.numeral.specs.Words.{same_units}
 use Rattle.evaluator.specs.Stores.{Val}
 use Rattle.evaluator.specs.Commands.{Ran}
 use Rattle.evaluator.specs.Runs.{run}
@@ -54,7 +54,7 @@ Holds (case f dump answer) = script (bytes_in dump) f ≡ expected answer
 -- the double of a numeral in a heap
 abbrev pub reading_in : List Numeral → List ℕ → Option ℕ
 reading_in [] t = None
-reading_in (n ∷ ns) t = cond (same_units_lem t n.digits) (Some n.bits) (reading_in ns t)
+reading_in (n ∷ ns) t = cond (same_units t n.digits) (Some n.bits) (reading_in ns t)
 
 -- The lines run to their end on the evaluator, and the result is the heap's graph.
 pub record Rebuilt (h : Heap) (ls : List (List ℕ)) : Type 0 where

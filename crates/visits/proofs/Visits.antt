@@ -1,5 +1,5 @@
 -- The visit from a root ends; its order has no object twice, the root last, is closed and has just what is reachable; an edge that goes to no earlier object goes to one that is reached twice.
-use Rattle.std.proofs.Common.{◌≡◌, ℕ, zero, suc, ◌+◌, ◌<◌, ◌≤◌, Bool, true, false, cond, ◌||◌, eqb, ◌⊎◌, List, [], ◌∷◌, ◌++◌, length, get_or, sym, refl, ap, ◌∙◌, subst, inl, inr, ⊎_elim, append_assoc, append_nil, add-zero, add-suc, suc-add, zero-add, arith, eq-eqb, ne_eqb, eqb-true}
+use Rattle.std.proofs.Common.{◌≡◌, ℕ, zero, suc, ◌+◌, ◌<◌, ◌≤◌, Bool, true, false, cond, ◌||◌, eqb, ◌⊎◌, List, [], ◌∷◌, ◌++◌, length, get_or, sym, refl, ap, ◌∙◌, subst, inl, inr, ⊎_elim, append_assoc, append-nil, add-zero, add-suc, suc-add, zero-add, arith, eq-eqb, ne_eqb, eqb-true}
 use Rattle.std.proofs.lemmas.Bool.{cases_eq, or_parts, or_cases, both_ways, cond_both, or_right, or_left}
 use Rattle.dump.specs.Heaps.{Object, nobody, Heap}
 use Rattle.planner.specs.Visits.{edges_of, edges, mem, Frame, at, Visiting, open_objects, visit_frames, visit_run, fuel, visit}
@@ -143,7 +143,7 @@ module _ (h : Heap) (r : ℕ) (wf : InRange h) where
         nodup = λ y. let n = v.nodup y in omega (arith, count-++ y post (i ∷ []));
         inside = λ y e. v.inside y (back y e);
         frames = frames_more h r (seen (at i [] ∷ fs) post) (seen fs (post ++ (i ∷ []))) to post (post ++ (i ∷ [])) old t;
-        ordered = o_snoc i (subst (λ z. Fine h r (seen fs (post ++ (i ∷ []))) post i z) (sym (ok.whole ∙ append_nil ok.passed)) (fine_more h r (seen (at i [] ∷ fs) post) (seen fs (post ++ (i ∷ []))) to post post (λ x e. e) i ok.passed ok.fine)) (ordered_more h r (seen (at i [] ∷ fs) post) (seen fs (post ++ (i ∷ []))) to v.ordered);
+        ordered = o_snoc i (subst (λ z. Fine h r (seen fs (post ++ (i ∷ []))) post i z) (sym (ok.whole ∙ append-nil ok.passed)) (fine_more h r (seen (at i [] ∷ fs) post) (seen fs (post ++ (i ∷ []))) to post post (λ x e. e) i ok.passed ok.fine)) (ordered_more h r (seen (at i [] ∷ fs) post) (seen fs (post ++ (i ∷ []))) to v.ordered);
         root = to r v.root;
         reach = λ y e. v.reach y (back y e);
         closes = pop_closes i fs post u;

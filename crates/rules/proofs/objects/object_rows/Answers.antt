@@ -4,7 +4,7 @@ use Rattle.dump.specs.Places.{row_at}
 use Rattle.dump.specs.Raws.{bytes}
 use Rattle.dump.proofs.Rules.{each_more, each_stop}
 use Rattle.shapes.specs.Rows.{parts_in, bytes_in}
-use Rattle.rules.specs.Objects.{parts_below, bytes_below_lem}
+use Rattle.rules.specs.Objects.{parts_below, bytes_below}
 use Rattle.rules.proofs.Sound.{passed, runs_fit, bytes_fit, parts_more, bytes_more}
 use Rattle.rules.proofs.objects.object_rows.Goals as goal
 
@@ -21,7 +21,7 @@ loop-i-preserved c =
     let here = sym c.in-ok-object-row.ensures in
     let kept = passed b l i (ap is_ok here) in
     let fit = runs_fit (row_at b l i) (parts_below b l i) l.parts.count (omega arith) kept.runs in
-    let fit2 = bytes_fit (row_at b l i) (bytes_below_lem b l i) l.octets.count (omega arith) kept.octets in
+    let fit2 = bytes_fit (row_at b l i) (bytes_below b l i) l.octets.count (omega arith) kept.octets in
     let more = parts_more b l i in
     let more2 = bytes_more b l i in
     let same = c.parts-in-parts.ensures.0 ∙ ap parts_in c.row-row.ensures in

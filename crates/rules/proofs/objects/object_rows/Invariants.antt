@@ -1,7 +1,7 @@
 use Rattle.std.proofs.Common.{◌≡◌, ◌≤◌, Ok}
 use Rattle.dump.specs.Raws.{bytes}
 use Rattle.dump.specs.Rules.{each}
-use Rattle.rules.specs.Objects.{object_row, parts_below, bytes_below_lem}
+use Rattle.rules.specs.Objects.{object_row, parts_below, bytes_below}
 use Rattle.rules.proofs.objects.object_rows.Given as goal
 
 abbrev pub invariant-loop-i : goal.invariant-loop-i
@@ -9,5 +9,5 @@ invariant-loop-i l =
     (each (object_row (bytes l.raw) l.raw.layout) l.i ≡ Ok tt)
     × (l.parts ≡ parts_below (bytes l.raw) l.raw.layout l.i)
     × (l.parts ≤ l.raw.layout.parts.count)
-    × (l.octets ≡ bytes_below_lem (bytes l.raw) l.raw.layout l.i)
+    × (l.octets ≡ bytes_below (bytes l.raw) l.raw.layout l.i)
     × (l.octets ≤ l.raw.layout.octets.count)
