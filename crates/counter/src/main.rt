@@ -1,4 +1,6 @@
 // Says in one line whether the dump on standard input is sound, and what it holds.
+#![tactic(auto)]
+
 ghost use Rattle.counter.specs.Judged.{Judged};
 
 use dump::refusal::Refusal;

@@ -1,5 +1,5 @@
 -- Rules with their numbers: a record is refused by the first rule that fails, a list of records by its first such record.
-use Rattle.std.specs.Prelude.{◌≡◌, ℕ, zero, suc, Bool, true, false, cond, eqb, ltb, List, [], ◌∷◌, Ok, Err, Result}
+use Rattle.std.specs.Prelude.{◌≡◌, ℕ, zero, suc, Bool, true, false, cond, List, [], ◌∷◌, Ok, Err, Result}
 use Rattle.dump.specs.declared.refusal.Refusal.{Refusal}
 
 abbrev pub Verdict : Type 0

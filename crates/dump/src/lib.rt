@@ -1,4 +1,6 @@
 // The format of a dump: words, sections and rows, read in place.
+#![tactic(auto)]
+
 pub mod bytes;
 pub mod kinds;
 pub mod layout;

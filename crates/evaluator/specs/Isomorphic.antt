@@ -1,5 +1,5 @@
 -- When what was built is the same graph as a heap's: one pairing of objects, root with result, alike in all that they hold.
-use Rattle.std.specs.Prelude.{◌≡◌, ℕ, suc, ◌/◌, ◌%◌, ◌^◌, Bool, true, false, cond, not, ◌&&◌, ◌||◌, List, [], ◌∷◌, ℤ, pos, negsuc, Some, None, decimal, MatchBool, Option, ◌==◌, slice_index_or}
+use Rattle.std.specs.Prelude.{◌≡◌, ℕ, suc, ◌%◌, ◌^◌, Bool, true, false, cond, not, ◌&&◌, ◌||◌, List, [], ◌∷◌, ℤ, pos, negsuc, Some, None, decimal, MatchBool, Option, ◌==◌, slice_index_or}
 use Rattle.dump.specs.Heaps as heaps
 use Rattle.dump.specs.Heaps.{Text, Value, Key, index, name, Kind, Part, property, element, entry, member, below, cause, Object, nobody, Heap}
 use Rattle.numeral.specs.Digits.{value_from}

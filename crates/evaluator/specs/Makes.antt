@@ -1,5 +1,5 @@
 -- What `new` and the methods make. The words, widths and element types are this file's own.
-use Rattle.std.specs.Prelude.{ℕ, zero, suc, ◌+◌, ◌-◌, ◌*◌, ◌/◌, ◌%◌, ◌^◌, min, Bool, true, false, cond, not, ◌&&◌, ◌||◌, List, [], ◌∷◌, ◌++◌, length, drop, ℤ, pos, negsuc, is_some, Some, None, codes, decimal, Option, ◌==◌, nat_le, nat_lt}
+use Rattle.std.specs.Prelude.{ℕ, zero, suc, ◌+◌, ◌-◌, ◌*◌, ◌/◌, ◌%◌, ◌^◌, min, Bool, true, false, cond, not, ◌&&◌, List, [], ◌∷◌, ◌++◌, length, drop, ℤ, pos, negsuc, is_some, Some, None, codes, decimal, Option, ◌==◌, nat_le, nat_lt}
 use Rattle.std.specs.Float.Ieee as Ieee
 use Rattle.std.specs.Float.{binary64}
 use Rattle.dump.specs.declared.kinds.ViewKind.{ViewKind}
@@ -10,7 +10,7 @@ use Rattle.dump.specs.Heaps.{Text}
 use Rattle.numeral.specs.Numerals.{finite, signed, whole_bits}
 use Rattle.numeral.specs.Words.{same_units}
 use Rattle.evaluator.specs.Options.{and_then, when, or_else}
-use Rattle.evaluator.specs.Stores.{Val, undefined, null, boolean, number, big, text, ref, Shape, wrapped, regexp, date, ordinary, array, mapping, setting, buffer, view, error, Slot, keyed, pair, single, Obj, State, Made, made, make, change, place, object_of, map_set, set_add}
+use Rattle.evaluator.specs.Stores.{Val, undefined, null, boolean, number, big, text, ref, Shape, wrapped, regexp, date, ordinary, array, mapping, setting, buffer, view, error, Slot, keyed, pair, single, State, Made, made, make, change, place, object_of, map_set, set_add}
 
 -- the whole number, below 2^53 in size, that a double is
 abbrev pub size_bits : ℕ → ℕ

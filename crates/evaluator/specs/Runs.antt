@@ -1,9 +1,8 @@
 -- Running a line over built objects and names: from its bytes, left to right.
-use Rattle.std.specs.Prelude.{ℕ, zero, suc, ◌+◌, ◌-◌, ◌*◌, Bool, true, false, cond, not, ◌&&◌, ◌||◌, List, [], ◌∷◌, ◌++◌, length, take, drop, ℤ, pos, negsuc, is_some, Some, None, codes, decimal, Option, ◌==◌, nat_le, nat_lt}
+use Rattle.std.specs.Prelude.{ℕ, suc, ◌+◌, ◌-◌, ◌*◌, Bool, true, false, cond, not, ◌&&◌, ◌||◌, List, [], ◌∷◌, ◌++◌, length, take, drop, is_some, Some, None, codes, decimal, Option, ◌==◌, nat_le, nat_lt}
 use Rattle.dump.specs.Heaps.{Text}
-use Rattle.numeral.specs.Digits.{index_of, whole_within, whole_digits, value_from}
+use Rattle.numeral.specs.Digits.{whole_digits, value_from}
 use Rattle.numeral.specs.Numerals.{minus, body, is_numeral, whole_of, whole_bits}
-use Rattle.numeral.specs.Words.{same_units}
 use Rattle.evaluator.specs.Options.{and_then, when, or_else}
 use Rattle.evaluator.specs.Characters.{characters}
 use Rattle.evaluator.specs.Tokens.{Token, word, number, string, mark, break, hex_value, tokens}

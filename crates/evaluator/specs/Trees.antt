@@ -1,5 +1,5 @@
 -- Tokens as trees: what stands in brackets is one tree.
-use Rattle.std.specs.Prelude.{ℕ, ◌+◌, Bool, true, false, cond, ◌||◌, List, [], ◌∷◌, Some, None, Option, ◌==◌}
+use Rattle.std.specs.Prelude.{ℕ, ◌+◌, Bool, cond, ◌||◌, List, [], ◌∷◌, Some, None, Option, ◌==◌}
 use Rattle.evaluator.specs.Options.{and_then}
 use Rattle.evaluator.specs.Tokens.{Token, word, number, string, mark, break}
 

@@ -1,4 +1,6 @@
 // The main statement, proved: every planned script runs on the evaluator, line by line, and rebuilds its heap; and every trace of a delivery is sound.
+#![tactic(auto)]
+
 ghost use Rattle.traces.specs.Theorem.{Faithful};
 ghost use Rattle.faithful.specs.Accepted.{AcceptedFaithful};
 ghost use Rattle.faithful.specs.Dumps.{OwnNumeralsFaithful};

@@ -1,18 +1,17 @@
 -- The heap of an accepted dump is well formed.
-use Rattle.std.proofs.Common.{◌≡◌, ℕ, ◌+◌, ◌<◌, ◌≤◌, Bool, true, false, ◌&&◌, ◌||◌, eqb, List, map, length, Ok, sym, refl, ap, ◌∙◌, subst, arith}
+use Rattle.std.proofs.Common.{◌≡◌, ℕ, ◌+◌, ◌<◌, true, false, eqb, List, Ok, sym, subst, arith}
 use lib.Pow.{are_bytes}
-use Rattle.std.specs.List.{range_with_len, AllByRecursion as All}
 use Rattle.std.proofs.lemmas.Bool.{and_parts, or_parts, not-true, eqb-false, ltb-true}
 use Rattle.dump.specs.declared.layout.Layout.{Layout}
-use Rattle.dump.specs.Heaps.{Object, Numeral, Heap}
+use Rattle.dump.specs.Heaps.{Numeral}
 use Rattle.dump.specs.Layouts.{layout_of}
-use Rattle.dump.specs.Meaning.{object_of, numeral_of, heap_of, kind_of, parts_of, value_of}
+use Rattle.dump.specs.Meaning.{object_of, numeral_of, heap_of, kind_of, parts_of}
 use Rattle.dump.specs.Places.{row_at, root_at, text_of, numeral_bits, numeral_text}
 use Rattle.dump.proofs.Rules.{none_passes}
 use Rattle.numeral.specs.Numerals.{is_pair}
 use Rattle.rules.specs.Texts.{same_numeral}
 use Rattle.formed.specs.Sound.{Sound}
-use Rattle.formed.specs.Formed.{KindFormed, PartsFormed, ObjectFormed, ValueFormed, Lawful, Formed}
+use Rattle.formed.specs.Formed.{PartsFormed, ObjectFormed, ValueFormed, Lawful, Formed}
 use Rattle.formed.specs.Theorems.{AcceptedIsFormed}
 use Rattle.formed.proofs.Layouts.{few_objects}
 use Rattle.formed.proofs.Lists.{all_counting, pairwise_counting}

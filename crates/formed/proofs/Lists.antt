@@ -1,5 +1,5 @@
 -- Lists made from a range of numbers: what holds of each element, and of each with every later one.
-use Rattle.std.proofs.Common.{◌≡◌, ℕ, zero, suc, ◌+◌, ◌<◌, ◌≤◌, List, [], ◌∷◌, map, sym, refl, ap, ◌∙◌, subst, arith}
+use Rattle.std.proofs.Common.{◌≡◌, ℕ, zero, suc, ◌+◌, ◌<◌, map, subst, arith}
 use Rattle.std.specs.List.{range_with_len, AllByRecursion as All}
 use Rattle.formed.specs.Formed.{Pairwise}
 

@@ -1,5 +1,5 @@
 -- The objects of a sound dump are well formed, kind by kind.
-use Rattle.std.proofs.Common.{◌≡◌, ℕ, zero, suc, ◌+◌, ◌-◌, ◌*◌, ◌%◌, ◌^◌, ◌<◌, ◌≤◌, Bool, true, false, cond, ◌&&◌, eqb, ltb, leb, ◌⊎◌, List, [], ◌∷◌, ◌++◌, map, length, get_or, take, drop, ℤ, pos, negsuc, is_some, Some, None, sym, refl, ap, ◌∙◌, subst, inl, inr, ⊎_elim, arith, lit≤, length-append}
+use Rattle.std.proofs.Common.{◌≡◌, ℕ, zero, suc, ◌+◌, ◌-◌, ◌*◌, ◌%◌, ◌<◌, ◌≤◌, Bool, true, false, cond, ◌&&◌, eqb, ltb, leb, ◌⊎◌, List, [], ◌∷◌, ◌++◌, map, length, take, drop, pos, negsuc, Some, None, sym, refl, ap, ◌∙◌, subst, inl, inr, ⊎_elim, arith, lit≤, length-append}
 use lib.Pow.{are_bytes}
 use mir.Val.{sel}
 use Rattle.std.specs.List.{range_with_len, AllByRecursion as All}
@@ -9,10 +9,10 @@ use Rattle.std.proofs.lemmas.Bool.{cond_both, and_parts, eqb-true, leb-true, leb
 use Rattle.std.proofs.lemmas.Bool.Decides.{nat_tests}
 use Rattle.dump.specs.declared.layout.Layout.{Layout}
 use Rattle.dump.specs.declared.row.Row.{Row}
-use Rattle.dump.specs.Bytes.{word, bytes_at}
-use Rattle.dump.specs.Heaps.{Kind, buffer, Part, below, Object, nobody, Heap}
+use Rattle.dump.specs.Bytes.{bytes_at}
+use Rattle.dump.specs.Heaps.{buffer, below, Object, nobody}
 use Rattle.dump.specs.Kinds.{view_kind, width}
-use Rattle.dump.specs.Meaning.{joined, signed64, kind_of, parts_of, object_of, heap_of, maybe_text, element_at, property_at, cause_at}
+use Rattle.dump.specs.Meaning.{joined, signed64, kind_of, parts_of, object_of, heap_of, maybe_text, element_at, property_at}
 use Rattle.dump.specs.Places.{row_at, text_of}
 use Rattle.dump.specs.Rules.{Hold}
 use Rattle.dump.proofs.Runs.{length-bytes}
@@ -23,7 +23,7 @@ use Rattle.formed.specs.Sound.{Sound}
 use Rattle.formed.specs.Formed.{KindFormed, PartsFormed, ViewFormed, TimeFits, MaybeUnits, MaximumFits, kind_at, Properties, ElementFormed}
 use Rattle.formed.proofs.Parts.{properties, elements, causes, entries, members}
 use Rattle.formed.proofs.Values.{upto9}
-use Rattle.formed.proofs.Words.{word_below, units_below, bytes_below_lem}
+use Rattle.formed.proofs.Words.{units_below, bytes_below_lem}
 
 -- by cases on a number up to 13
 upto13 : (P : ℕ → Type 0) → P 0 → P 1 → P 2 → P 3 → P 4 → P 5 → P 6 → P 7 → P 8 → P 9 → P 10 → P 11 → P 12 → P 13 → (n : ℕ) → n ≤ 13 → P n

@@ -1,27 +1,24 @@
 -- The parts of a sound dump are well formed in each of their roles.
-use Rattle.std.proofs.Common.{◌≡◌, ℕ, zero, suc, ◌+◌, ◌-◌, ◌*◌, ◌<◌, ◌≤◌, Bool, true, false, cond, not, ◌&&◌, ◌||◌, eqb, ltb, ◌⊎◌, List, map, is_some, codes, sym, refl, ap, ◌∙◌, subst, inl, inr, ⊎_elim, arith}
+use Rattle.std.proofs.Common.{◌≡◌, ℕ, zero, suc, ◌+◌, ◌-◌, ◌<◌, Bool, true, false, not, ◌&&◌, eqb, ltb, ◌⊎◌, List, map, is_some, codes, sym, refl, ◌∙◌, subst, inl, inr, ⊎_elim, arith}
 use lib.Pow.{are_bytes}
 use Rattle.std.specs.List.{range_with_len, AllByRecursion as All}
-use Rattle.std.proofs.lemmas.Bool.{cases_Bool, cond-true, cond-false, and_parts, or_parts, or_cases, not-true, ltb-true, eqb-true, ne_eqb, both_ways, and_from, eq-eqb}
-use Rattle.std.proofs.lemmas.Bool.Decides.{nat_tests, not_from_Decides}
+use Rattle.std.proofs.lemmas.Bool.{cases_Bool, cond-true, cond-false, and_parts, or_parts, not-true, ltb-true, eqb-true, ne_eqb, both_ways, and_from, eq-eqb}
+use Rattle.std.proofs.lemmas.Bool.Decides.{not_from_Decides}
 use Rattle.dump.specs.declared.layout.Layout.{Layout}
 use Rattle.dump.specs.declared.row.Cell.{Cell}
-use Rattle.dump.specs.Heaps.{Value, double, Key, index, name, Part, property, element, entry, member, cause}
-use Rattle.dump.specs.Meaning.{value_of, key_of, joined, property_at, element_at, entry_at, member_at, cause_at}
-use Rattle.dump.specs.Places.{text_of, key_at, value_at, cell_at}
+use Rattle.dump.specs.Heaps.{index, name}
+use Rattle.dump.specs.Meaning.{value_of, key_of, property_at, element_at, entry_at, member_at, cause_at}
+use Rattle.dump.specs.Places.{text_of, key_at, value_at}
 use Rattle.dump.specs.Rules.{Hold, any_below}
 use Rattle.dump.proofs.Rules.{none_passes}
 use Rattle.numeral.specs.Digits.{index_of}
-use Rattle.numeral.specs.Words.{same_units}
 use Rattle.numeral.proofs.Laws.{same_units_lem}
-use Rattle.shapes.specs.Cells.{tag_ok, place_ok, same_zero, minus_zero}
-use Rattle.rules.specs.declared.role.Role.{Role}
-use Rattle.rules.specs.declared.role.Role.TheVariants.{Property, Element, Entry, Member, Cause, Loose}
+use Rattle.shapes.specs.Cells.{place_ok, same_zero, minus_zero}
+use Rattle.rules.specs.declared.role.Role.TheVariants.{Property, Element, Entry, Member, Cause}
 use Rattle.rules.specs.declared.role.PartRun.{PartRun}
-use Rattle.rules.specs.Cells.{bigint_ok}
-use Rattle.rules.specs.Parts.{may_be_hole, named, reserved, index_ok, name_ok, property_ok, key_ok, identity, apart, member_ok, part_rules}
+use Rattle.rules.specs.Parts.{may_be_hole, named, reserved, index_ok, name_ok, property_ok, part_rules}
 use Rattle.formed.specs.Sound.{Sound}
-use Rattle.formed.specs.Formed.{Pairwise, ValueFormed, KeyFormed, KeyBefore, Kept, PropertyFormed, ElementFormed, EntryFormed, MemberFormed, CauseFormed, PropertyBefore, EntryApart, MemberApart, Properties, SameValueZero}
+use Rattle.formed.specs.Formed.{Pairwise, KeyFormed, KeyBefore, Kept, PropertyFormed, ElementFormed, EntryFormed, MemberFormed, CauseFormed, PropertyBefore, EntryApart, MemberApart, Properties, SameValueZero}
 use Rattle.formed.proofs.Lists.{all_counting, pairwise_counting}
 use Rattle.formed.proofs.Texts.{same_text}
 use Rattle.formed.proofs.Values.{Placed, value_formed, element_formed}

@@ -1,5 +1,5 @@
 -- SameValueZero on values is symmetric, and on those of a sound dump it is the test that check makes.
-use Rattle.std.proofs.Common.{◌≡◌, ℕ, ◌+◌, ◌*◌, ◌<◌, ◌≤◌, Bool, true, false, cond, ◌&&◌, ◌||◌, eqb, ltb, leb, ◌⊎◌, List, Some, None, sym, refl, ap, ◌∙◌, subst, inl, inr, ⊎_elim, arith}
+use Rattle.std.proofs.Common.{◌≡◌, ℕ, ◌+◌, ◌*◌, ◌<◌, ◌≤◌, Bool, true, false, cond, ◌&&◌, ◌||◌, eqb, leb, List, Some, None, sym, refl, ap, ◌∙◌, subst, inl, inr, arith}
 use mathlib.Core.Bool.{beq}
 use lib.Ieee as Ieee
 use lib.Ieee.{Float, nan, inf, fin, level, up, down}
@@ -10,9 +10,9 @@ use Rattle.dump.specs.declared.row.Cell.{Cell}
 use Rattle.dump.specs.Heaps.{Value, undefined, null, hole, boolean, whole, double, bigint, text, object}
 use Rattle.dump.specs.Meaning.{value_of, joined}
 use Rattle.dump.specs.Places.{text_of}
-use Rattle.shapes.specs.Cells.{tag_ok, is_number, number_of, same_number, same_zero, minus_zero}
+use Rattle.shapes.specs.Cells.{is_number, number_of, same_number, same_zero, minus_zero}
 use Rattle.formed.specs.Sound.{Sound}
-use Rattle.formed.specs.Formed.{number_in, SameNumbers, SameValueZero}
+use Rattle.formed.specs.Formed.{number_in, SameValueZero}
 use Rattle.formed.proofs.Texts.{same_text}
 use Rattle.formed.proofs.Values.{upto9, tag_small, Placed}
 

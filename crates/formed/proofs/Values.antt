@@ -1,21 +1,18 @@
 -- Values of a sound dump are well formed, and SameValueZero on them is the test that check makes.
-use Rattle.std.proofs.Common.{◌≡◌, ℕ, zero, suc, ◌+◌, ◌-◌, ◌*◌, ◌^◌, ◌<◌, ◌≤◌, Bool, true, false, cond, ◌&&◌, ◌||◌, eqb, ltb, leb, ◌⊎◌, List, ℤ, pos, negsuc, Some, None, sym, refl, ap, ◌∙◌, subst, inl, inr, ⊎_elim, arith, w32, to_z}
-use lib.Ieee.{Float}
+use Rattle.std.proofs.Common.{◌≡◌, ℕ, zero, suc, ◌-◌, ◌<◌, ◌≤◌, Bool, true, false, ◌&&◌, eqb, ltb, ◌⊎◌, List, pos, negsuc, refl, inl, inr, arith}
 use lib.Pow.{are_bytes}
 use mir.Val.{sel}
-use Rattle.std.proofs.lemmas.Bool.{cases_Bool, ltb-true, ltb-false}
+use Rattle.std.proofs.lemmas.Bool.{ltb-true, ltb-false}
 use Rattle.std.proofs.lemmas.Bool.Decides.{nat_tests}
 use Rattle.dump.specs.declared.layout.Layout.{Layout}
 use Rattle.dump.specs.declared.row.Cell.{Cell}
 use Rattle.dump.specs.Heaps.{Value, undefined, null, hole, boolean, whole, double, bigint, text, object}
 use Rattle.dump.specs.Meaning.{value_of, joined, signed32}
-use Rattle.dump.specs.Places.{text_of, cell_at}
-use Rattle.shapes.specs.Cells.{tag_ok, place_ok, is_number, number_of, same_number, same_zero, minus_zero}
+use Rattle.dump.specs.Places.{text_of}
+use Rattle.shapes.specs.Cells.{tag_ok, place_ok}
 use Rattle.rules.specs.Cells.{bigint_ok}
-use Rattle.formed.specs.Sound.{Sound}
-use Rattle.formed.specs.Formed.{WholeFits, ValueFormed, number_in, SameNumbers, SameValueZero}
-use Rattle.formed.proofs.Texts.{same_text}
-use Rattle.formed.proofs.Words.{units_below, low_below, high_below}
+use Rattle.formed.specs.Formed.{WholeFits, ValueFormed}
+use Rattle.formed.proofs.Words.{units_below}
 
 -- by cases on a number up to 9
 pub upto9 : (P : ℕ → Type 0) → P 0 → P 1 → P 2 → P 3 → P 4 → P 5 → P 6 → P 7 → P 8 → P 9 → (n : ℕ) → n ≤ 9 → P n

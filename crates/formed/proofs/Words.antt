@@ -1,10 +1,10 @@
 -- Bounds of words, units and bytes.
-use Rattle.std.proofs.Common.{◌≡◌, ℕ, zero, suc, ◌+◌, ◌*◌, ◌<◌, ◌≤◌, true, List, [], ◌∷◌, get_or, sym, refl, ap, ◌∙◌, arith}
+use Rattle.std.proofs.Common.{◌≡◌, ℕ, zero, suc, ◌+◌, ◌<◌, true, List, arith}
 use lib.Pow.{are_bytes}
 use Rattle.std.specs.List.{AllByRecursion as All}
 use Rattle.dump.specs.declared.layout.Layout.{Layout}
 use Rattle.dump.specs.Bytes.{word, unit, units_at, bytes_at}
-use Rattle.dump.specs.Places.{row_at, cell_at, text_of}
+use Rattle.dump.specs.Places.{row_at, cell_at}
 use Rattle.dump.proofs.Runs.{byte_below}
 use Rattle.formed.specs.Formed.{Units}
 

@@ -1,13 +1,11 @@
 -- What is checked is what an accepted dump means, and well formed.
-use Rattle.std.proofs.Common.{◌≡◌, ℕ, true, List, [], ◌∷◌, is_ok, Ok, Err, Result, sym, refl, ap, ◌∙◌, arith}
+use Rattle.std.proofs.Common.{◌≡◌, ℕ, true, List, is_ok, Ok, Err, Result, sym, refl, ap, ◌∙◌, arith}
 use Rattle.dump.specs.declared.refusal.Refusal.{Refusal}
 use Rattle.dump.specs.declared.layout.Layout.{Layout}
 use Rattle.dump.specs.Heaps.{Heap as Meant}
 use Rattle.dump.specs.Layouts.{layout_of, numbers, numbers_of}
-use Rattle.dump.specs.Meaning.{heap_of}
-use Rattle.rules.specs.Verdicts.{rows_of, verdict}
+use Rattle.rules.specs.Verdicts.{verdict}
 use Rattle.formed.specs.Formed.{Formed}
-use Rattle.formed.specs.Theorems.{Means}
 use Rattle.formed.proofs.Heaps as heaps
 use Rattle.formed.proofs.Verdict as verdicts
 use Rattle.heap_check.specs.declared.checked.Checked.{Checked}

@@ -6,7 +6,7 @@ ghost use Rattle.rules.specs.Verdicts.{rows_of};
 
 use dump::raw::Raw;
 
-mod reads;
+mod readers;
 
 // May be kept by whoever reads, beside the heap and after it.
 #[derive(Clone, Copy)]

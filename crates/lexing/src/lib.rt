@@ -1,1 +1,2 @@
 // The evaluator's lexer finds in the bytes of a line the tokens of its items: theorems alone.
+#![tactic(auto)]

@@ -1,11 +1,10 @@
 -- The front of a buffer that a numeral was written to is the numeral.
-use Rattle.std.proofs.Common.{◌≡◌, ℕ, List, [], ◌∷◌, ◌++◌, length, take, drop, IsSomeAnd, Some, None, Ok, Err, Option, Result, sym, refl, ap, ◌∙◌, subst}
+use Rattle.std.proofs.Common.{◌≡◌, ℕ, List, ◌++◌, length, take, drop, IsSomeAnd, Some, None, Ok, Err, Option, sym, ap, ◌∙◌, subst}
 use Rattle.std.proofs.lemmas.List.{take_at}
 use Rattle.sink.specs.declared.fault.SinkFault.{SinkFault}
 use Rattle.sink.specs.Meanings.{Meaning}
 use Rattle.sink.specs.Puts.{Put}
-use Rattle.numbers.specs.declared.fault.NumberFault.{NumberFault}
-use Rattle.numbers.specs.declared.fault.NumberFault.TheVariants.{Sinking, Spelling}
+use Rattle.numbers.specs.declared.fault.NumberFault.TheVariants.{Sinking}
 use Rattle.numbers.specs.Sent.{Sent}
 
 module _ {K : Type 0} (m : Meaning K) (k k' : K) (n : ℕ) (before after : List ℕ) where

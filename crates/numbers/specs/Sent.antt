@@ -2,7 +2,6 @@
 use Rattle.std.specs.Prelude.{◌≡◌, ℕ, List, Some, None, Ok, Err, Option, Result}
 use Rattle.sink.specs.Meanings.{Meaning}
 use Rattle.sink.specs.Puts.{Put}
-use Rattle.speller.specs.declared.fault.SpellFault.{SpellFault}
 use Rattle.speller.specs.declared.fault.SpellFault.TheVariants.{Short, Unspelled}
 use Rattle.numbers.specs.declared.fault.NumberFault.{NumberFault}
 use Rattle.numbers.specs.declared.fault.NumberFault.TheVariants.{Sinking, Spelling}

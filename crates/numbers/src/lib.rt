@@ -1,4 +1,6 @@
 // A double's numeral, by a speller, into a sink.
+#![tactic(auto)]
+
 ghost use Rattle.numbers.specs.Sent.{Sent};
 
 use sink::{Sink, put_all};

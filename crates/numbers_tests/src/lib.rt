@@ -1,4 +1,6 @@
 // Callers of `put_number` at either end, with any speller.
+#![tactic(auto)]
+
 ghost use Rattle.std.specs.Prelude.{length};
 ghost use Rattle.numbers_tests.specs.Held.{Counted};
 

@@ -1,13 +1,13 @@
 -- The planned lines of a heap, and when plan refuses instead.
-use Rattle.std.specs.Prelude.{ℕ, zero, suc, ◌+◌, max, Bool, true, false, cond, not, ◌&&◌, ◌||◌, List, [], ◌∷◌, ◌++◌, length, is_some, Some, None, Ok, Err, Option, Result, ◌==◌, nat_lt, slice_index_or}
+use Rattle.std.specs.Prelude.{ℕ, suc, ◌+◌, max, Bool, true, false, cond, not, ◌&&◌, ◌||◌, List, [], ◌∷◌, ◌++◌, is_some, Some, None, Ok, Option, Result, ◌==◌, nat_lt, slice_index_or}
 use Rattle.dump.specs.declared.refusal.Refusal.{Refusal}
 use Rattle.dump.specs.Heaps.{Value, undefined, null, hole, boolean, whole, double, bigint, text, object, Kind, boolean_object, number_object, bigint_object, string_object, regexp, date, plain, sparse, dense, map, set, buffer, view, error, Part, property, element, entry, member, below, cause, Object, Heap}
 use Rattle.dump.specs.Rules.{refuse, and_then}
 use Rattle.numeral.specs.Numerals.{finite}
 use Rattle.script.specs.Syntax as syntax
 use Rattle.script.specs.Syntax.{Form, named, buffer_of_named, circular, new_boolean, new_number, new_bigint, new_string, new_regexp, new_date, new_array, empty_map_form, empty_set_form, buffer_form, new_resizable, data_buffer, new_typed, typed_part, subarray, Group, braces, brackets, map_group, set_group, error_group, view_group, Expr, form, group, Items, none, item, keyed, pair, Stmt, opening, const, assign, put, add, fill, last, return}
-use Rattle.planner.specs.Visits.{refs, object_at, order as visit_order}
-use Rattle.planner.specs.Names.{buffer_in, BufferContent, pos, inlines, backing, backed, slot, has_name}
+use Rattle.planner.specs.Visits.{object_at, order as visit_order}
+use Rattle.planner.specs.Names.{buffer_in, BufferContent, pos, inlines, backing, slot, has_name}
 use Rattle.planner.specs.Builds.{value_expr, built}
 use Rattle.planner.specs.Lates.{Task, sets, puts, adds, fills, Late, lates, due}
 

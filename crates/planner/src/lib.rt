@@ -1,1 +1,2 @@
 // The plan of a script: definitions of its lines. The code that finds them is to come.
+#![tactic(auto)]

@@ -1,1 +1,2 @@
 // Every planned statement of a formed heap can be read back.
+#![tactic(auto)]

@@ -1,1 +1,2 @@
 // Reading a statement back: its tokens as trees, and what running them does.
+#![tactic(auto)]

@@ -1,4 +1,6 @@
 // The rows of a sound dump with types: values, keys, kinds and parts, whose texts stay in the dump.
+#![tactic(auto)]
+
 pub mod cells;
 pub mod kinds;
 pub mod object;

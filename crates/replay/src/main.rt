@@ -2,6 +2,8 @@
 //
 // A case is a line, `DUMP accepted` or `DUMP refused NUMBER SECTION RECORD`. The dump is `-` for the
 // empty one, or pieces joined by `+`: bytes in hexadecimal, or such bytes, `*` and how often they come.
+#![tactic(auto)]
+
 use dump::refusal::Refusal;
 use heap_check::heap::Heap;
 use std::alloc::{AllocError, AllocFailed, Global};

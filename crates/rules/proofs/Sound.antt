@@ -1,12 +1,12 @@
 -- What the loops over rows use of the rows that passed: runs of units, parts and bytes lie in their sections.
-use Rattle.std.proofs.Common.{◌≡◌, ℕ, zero, suc, ◌+◌, ◌<◌, ◌≤◌, Bool, true, false, cond, ◌&&◌, eqb, List, is_ok, sym, refl, ap, ◌∙◌, add-one, arith}
+use Rattle.std.proofs.Common.{◌≡◌, ℕ, zero, suc, ◌+◌, ◌<◌, ◌≤◌, true, List, is_ok, add-one, arith}
 use Rattle.std.proofs.lemmas.Bool.{and_parts}
 use Rattle.std.proofs.lemmas.Bool.Decides.{nat_tests}
 use Rattle.dump.specs.declared.layout.Layout.{Layout}
 use Rattle.dump.specs.declared.row.Row.{Row}
 use Rattle.dump.specs.Places.{end_of, row_at}
 use Rattle.dump.proofs.Rules.{row_passes, judge_holds}
-use Rattle.shapes.specs.Rows.{words_ok, numbers_ok, parts_in, bytes_in, runs_ok, bytes_ok}
+use Rattle.shapes.specs.Rows.{numbers_ok, parts_in, bytes_in, runs_ok, bytes_ok}
 use Rattle.rules.specs.Texts.{text_row, text_rows}
 use Rattle.rules.specs.Objects.{parts_below, bytes_below, object_rules, object_row, object_rows}
 use Rattle.rules.specs.Parts.{first_run, second_run}

@@ -1,4 +1,6 @@
 // The rules of a dump's rows, in the order of the walk.
+#![tactic(auto)]
+
 pub mod cells;
 pub mod objects;
 pub mod parts;

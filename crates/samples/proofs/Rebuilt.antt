@@ -1,5 +1,5 @@
 -- Each sample's script rebuilds its heap: by computing, with the pairing written out.
-use Rattle.std.proofs.Common.{List, [], ◌∷◌, Some, None, refl}
+use Rattle.std.proofs.Common.{[], ◌∷◌, Some, None, refl}
 use lib.Ieee as Ieee
 use Rattle.std.specs.Fmt.{digits}
 use Rattle.samples.specs.Scripts.{ScriptsRebuild}

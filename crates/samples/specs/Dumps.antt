@@ -1,7 +1,7 @@
 -- Sample dumps, each with the heap that it was made of.
 use Rattle.std.specs.Prelude.{◌≡◌, ℕ, ◌/◌, ◌%◌, List, [], ◌∷◌, ◌++◌, pos, Some, Ok, codes}
 use Rattle.std.specs.List.{AllByRecursion as All}
-use Rattle.dump.specs.Heaps.{Heap, Object, whole, text, object, hole, name, plain, dense, map, date, property, element, entry}
+use Rattle.dump.specs.Heaps.{Heap, whole, text, object, hole, name, plain, dense, map, date, property, element, entry}
 use Rattle.rules.specs.Verdicts.{verdict}
 
 -- numbers of 4 and of 2 bytes, low byte first

@@ -1,5 +1,5 @@
 -- The sample scripts run on the evaluator, and rebuild the heaps.
-use Rattle.std.specs.Prelude.{◌≡◌, ℕ, List, [], ◌∷◌, map, Some, None, Option}
+use Rattle.std.specs.Prelude.{◌≡◌, ℕ, List, map, Some, None, Option}
 use Rattle.dump.specs.Heaps.{Heap}
 use Rattle.script.specs.Items.{Line, all, cut}
 use Rattle.evaluator.specs.Stores.{Val}

@@ -1,8 +1,7 @@
 -- The scripts of the sample heaps in Repl form, line by line.
-use Rattle.std.specs.Prelude.{◌≡◌, ℕ, List, [], ◌∷◌, ◌++◌, map, None, Ok, Err, codes, Option, Result}
+use Rattle.std.specs.Prelude.{◌≡◌, ℕ, List, [], ◌∷◌, ◌++◌, map, None, Ok, codes, Option, Result}
 use Rattle.std.specs.List.{AllByRecursion as All}
 use Rattle.dump.specs.declared.refusal.Refusal.{Refusal}
-use Rattle.dump.specs.Heaps.{Heap}
 use Rattle.rules.specs.Verdicts.{verdict}
 use Rattle.dump.specs.Rules.{and_then}
 use Rattle.script.specs.Items.{Line, all, line}

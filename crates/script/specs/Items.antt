@@ -1,8 +1,8 @@
 -- A text as items: tokens, and the layout between them. What each item is in bytes.
-use Rattle.std.specs.Prelude.{ℕ, zero, suc, ◌+◌, ◌-◌, Bool, true, false, cond, not, List, [], ◌∷◌, ◌++◌, ℤ, pos, negsuc, Some, None, codes, decimal, Option, ◌==◌, nat_lt}
+use Rattle.std.specs.Prelude.{ℕ, zero, suc, Bool, false, cond, List, [], ◌∷◌, ◌++◌, ℤ, pos, negsuc, Some, None, codes, decimal, Option, ◌==◌, nat_lt}
 use Rattle.std.specs.Fmt.{digits}
 use Rattle.dump.specs.Heaps.{Text}
-use Rattle.numeral.specs.Numerals.{finite, signed}
+use Rattle.numeral.specs.Numerals.{finite}
 use Rattle.script.specs.Literals.{literal}
 
 pub data Item : Type 0 where

@@ -1,5 +1,5 @@
 -- The text of a statement, as items: every form, key, list and indent.
-use Rattle.std.specs.Prelude.{ℕ, zero, suc, ◌+◌, ◌-◌, ◌*◌, ◌/◌, ◌%◌, ◌^◌, Bool, true, false, cond, not, ◌&&◌, ◌||◌, List, [], ◌∷◌, ◌++◌, length, ℤ, pos, Some, None, codes, decimal, Option, ◌==◌, nat_le}
+use Rattle.std.specs.Prelude.{ℕ, ◌+◌, ◌-◌, ◌*◌, ◌/◌, ◌%◌, ◌^◌, Bool, true, false, cond, ◌&&◌, List, [], ◌∷◌, ◌++◌, length, ℤ, pos, Some, None, codes, decimal, Option, ◌==◌, nat_le}
 use Rattle.dump.specs.declared.kinds.ViewKind.{ViewKind}
 use Rattle.dump.specs.declared.kinds.ViewKind.TheVariants.{Int8Array, Uint8Array, Uint8ClampedArray, Int16Array, Uint16Array, Int32Array, Uint32Array, Float32Array, Float64Array, BigInt64Array, BigUint64Array, DataView}
 use Rattle.dump.specs.declared.kinds.ErrorName.{ErrorName}
@@ -9,7 +9,7 @@ use Rattle.dump.specs.Heaps.{Text, Value, Key, index, name}
 use Rattle.dump.specs.Kinds.{width}
 use Rattle.numeral.specs.Words.{same_units}
 use Rattle.script.specs.Items.{Item, word, mark, text, whole, double, bigint, hex, blanks, line_end, comment}
-use Rattle.script.specs.Syntax.{Form, named, buffer_of_named, circular, new_boolean, new_number, new_bigint, new_string, new_regexp, new_date, new_array, empty_map_form, empty_set_form, buffer_form, new_resizable, data_buffer, new_typed, typed_part, subarray, Group, braces, brackets, map_group, set_group, error_group, view_group, Expr, value, form, group, Items, none, hole, item, keyed, pair, Stmt, opening, const, assign, put, add, fill, last, return}
+use Rattle.script.specs.Syntax.{Form, named, buffer_of_named, circular, new_boolean, new_number, new_bigint, new_string, new_regexp, new_date, new_array, empty_map_form, empty_set_form, buffer_form, new_resizable, data_buffer, new_typed, typed_part, subarray, braces, brackets, map_group, set_group, error_group, view_group, Expr, value, form, group, Items, none, hole, item, keyed, pair, Stmt, opening, const, assign, put, add, fill, last, return}
 
 -- the constructor of a view kind and of an error
 abbrev pub view_name : ViewKind → List ℕ

@@ -1,5 +1,5 @@
 -- The rules of a value by itself, and when two values are one key of a Map.
-use Rattle.std.specs.Prelude.{ℕ, Bool, true, false, cond, ◌&&◌, ◌||◌, pos, ◌==◌, nat_le, nat_lt, Float}
+use Rattle.std.specs.Prelude.{ℕ, Bool, true, cond, ◌&&◌, ◌||◌, pos, ◌==◌, nat_le, nat_lt, Float}
 use Rattle.std.specs.Float.Ieee as Ieee
 use Rattle.std.specs.Float.{binary64}
 use Rattle.dump.specs.declared.row.Cell.{Cell}

@@ -1,1 +1,2 @@
 // The simulation: line by line, the evaluator's store stands for more of the heap.
+#![tactic(auto)]

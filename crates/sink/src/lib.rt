@@ -1,4 +1,6 @@
 // Sinks: what bytes are written to, one after the other, until the space is used up.
+#![tactic(auto)]
+
 mod counter;
 mod fault;
 mod page;

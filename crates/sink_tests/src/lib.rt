@@ -1,4 +1,6 @@
 // Callers of the crate `sink`: under the trait, with either end, and with a tally.
+#![tactic(auto)]
+
 ghost use Rattle.std.specs.Prelude.{◌++◌};
 ghost use Rattle.sink.specs.Puts.{Put, Told};
 ghost use Rattle.sink_tests.specs.Repeated.{repeated};

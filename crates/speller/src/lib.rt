@@ -1,4 +1,6 @@
 // Spellers: what gives doubles their numerals.
+#![tactic(auto)]
+
 mod decimal;
 pub mod fault;
 pub mod spelling;

@@ -1,3 +1,5 @@
 // Tests of the crate `speller`: doubles by their bits.
+#![tactic(auto)]
+
 #[cfg(test)]
 mod tests;

@@ -1,4 +1,6 @@
 // The speller that a checked dump's own numerals make.
+#![tactic(auto)]
+
 ghost use Rattle.std.specs.Prelude.{◌≡◌, ◌<◌, ◌≤◌, ◌++◌, length, drop, slice_index_or};
 ghost use Rattle.dump.specs.Heaps.{empty_numeral};
 ghost use Rattle.heap_check.specs.Heaps.{model};

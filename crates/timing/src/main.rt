@@ -1,6 +1,8 @@
 // Times one `check` of the dump on standard input, in nanoseconds, for `bench/run`.
 //
 // One check a process: the compiler may move repeated checks of one dump out of a loop.
+#![tactic(auto)]
+
 use heap_check::heap::Heap;
 use std::io;
 use std::io::Read;

@@ -1,5 +1,5 @@
 -- The main statement: whoever keeps a trace of a planned delivery finds it sound at every call.
-use Rattle.std.specs.Prelude.{◌≡◌, ℕ, ◌+◌, ◌<◌, ◌≤◌, true, List, [], ◌∷◌, ◌++◌, map, length, Some, None, Ok, Option}
+use Rattle.std.specs.Prelude.{◌≡◌, ℕ, ◌+◌, ◌<◌, ◌≤◌, List, [], ◌∷◌, ◌++◌, map, length, Some, Ok, Option}
 use Rattle.dump.specs.Heaps.{Heap}
 use Rattle.formed.specs.Formed.{Formed}
 use Rattle.speller.specs.Spelling.{Lawful}
@@ -10,7 +10,7 @@ use Rattle.evaluator.specs.Stores.{Val}
 use Rattle.evaluator.specs.Commands.{Ran}
 use Rattle.evaluator.specs.Runs.{run}
 use Rattle.evaluator.specs.Isomorphic.{Isomorphic}
-use Rattle.traces.specs.Traces.{Answer, told, refused, Entry, sends, lefts, ends, Trace, sent}
+use Rattle.traces.specs.Traces.{told, refused, Entry, sends, lefts, ends, Trace, sent}
 
 -- the numerals that a speller means, read back
 abbrev pub Inverse : (ℕ → Option (List ℕ)) → (List ℕ → Option ℕ) → Type 0

@@ -1,5 +1,5 @@
 -- A decision for one constructor alone: none for all the others.
-use Rattle.std.proofs.Common.{ℕ, Bool, List, [], ◌∷◌, ℤ, Some, None, Option}
+use Rattle.std.proofs.Common.{ℕ, Bool, List, [], ◌∷◌, ℤ, None, Option}
 use Rattle.dump.specs.declared.kinds.ViewKind.{ViewKind}
 use Rattle.dump.specs.declared.kinds.ErrorName.{ErrorName}
 use Rattle.dump.specs.Heaps.{Text}

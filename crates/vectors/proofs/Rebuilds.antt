@@ -1,5 +1,5 @@
 -- Each table's scripts rebuild the heaps: by computing the decision.
-use Rattle.std.proofs.Common.{◌≡◌, ℕ, Bool, true, false, List, [], ◌∷◌, map, is_some, Some, None, Ok, Err, Option, Result, refl, arith}
+use Rattle.std.proofs.Common.{◌≡◌, ℕ, true, List, [], ◌∷◌, map, is_some, Some, None, Ok, Err, Option, Result, refl, arith}
 use lib.Ieee as Ieee
 use Rattle.std.specs.Fmt.{digits}
 use Rattle.std.specs.List.{AllByRecursion as All}

@@ -1,13 +1,13 @@
 -- A case: a format, a dump in hexadecimal, and the lines of its script or a refusal.
-use Rattle.std.specs.Prelude.{◌≡◌, ℕ, ◌+◌, ◌-◌, ◌*◌, Bool, true, false, cond, ◌&&◌, List, [], ◌∷◌, map, Some, None, Ok, Err, codes, Option, Result, ◌==◌, nat_le}
+use Rattle.std.specs.Prelude.{◌≡◌, ℕ, ◌+◌, ◌-◌, ◌*◌, cond, List, [], ◌∷◌, map, Some, None, Ok, Err, codes, Option, Result, ◌==◌, nat_le}
 use Prim.Native.String.{String}
 use Rattle.dump.specs.declared.refusal.Refusal.{Refusal}
 use Rattle.dump.specs.Heaps.{Heap, Numeral}
 use Rattle.dump.specs.Rules.{and_then, refuse}
 use Rattle.rules.specs.Verdicts.{verdict}
-use Rattle.script.specs.Items.{Line, all, cut, line}
+use Rattle.script.specs.Items.{Line, all, line}
 use Rattle.script.specs.Texts.{stmt_items}
-use Rattle.planner.specs.Lines.{Format, Plan, planned}
+use Rattle.planner.specs.Lines.{Format, planned}
 use Rattle.numeral.specs.Words.{same_units}
 use Rattle.evaluator.specs.Stores.{Val}
 use Rattle.evaluator.specs.Commands.{Ran}

@@ -1,4 +1,6 @@
 // Dumps with the scripts that they must get: that the definitions give just these, and that these rebuild the heaps, on a function's contract.
+#![tactic(auto)]
+
 ghost use Rattle.std.specs.List.{AllByRecursion as All};
 ghost use Rattle.vectors.specs.Cases.{Holds, Rebuilds};
 ghost use Rattle.vectors.specs.Tables.{tables};

@@ -1,12 +1,12 @@
 -- In a formed heap each edge goes to an object of it.
-use Rattle.std.proofs.Common.{◌≡◌, ℕ, zero, suc, ◌<◌, ◌≤◌, true, false, eqb, ◌⊎◌, List, [], ◌∷◌, length, get_or, take, drop, sym, refl, ap, ◌∙◌, subst, inl, inr, ⊎_elim, eqb-true}
+use Rattle.std.proofs.Common.{◌≡◌, ℕ, zero, suc, ◌<◌, ◌≤◌, true, false, eqb, List, [], ◌∷◌, length, get_or, take, drop, sym, refl, subst, ⊎_elim, eqb-true}
 use Rattle.std.specs.List.{AllByRecursion as All}
 use Rattle.std.proofs.ByRecursion.{All-weaker, All-get_or, All-append}
 use Rattle.std.proofs.lemmas.List.{get_or_past}
 use Rattle.std.proofs.lemmas.Bool.{cases_lt, or_cases, both_ways}
 use Rattle.dump.specs.Heaps as heaps
 use Rattle.dump.specs.Heaps.{Value, Kind, Part, property, element, entry, member, below, cause, Object, nobody, Heap}
-use Rattle.formed.specs.Formed.{ValueFormed, PropertyFormed, ElementFormed, EntryFormed, MemberFormed, CauseFormed, ViewFormed, PartsFormed, ObjectFormed, Formed}
+use Rattle.formed.specs.Formed.{ValueFormed, PropertyFormed, ElementFormed, EntryFormed, MemberFormed, CauseFormed, PartsFormed, ObjectFormed, Formed}
 use Rattle.planner.specs.Visits.{refs, refs_of, values_in, edges_of, edges, mem}
 use Rattle.visits.proofs.Visits.{InRange}
 

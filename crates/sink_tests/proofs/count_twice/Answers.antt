@@ -6,7 +6,7 @@ use Rattle.sink_tests.proofs.count_twice.Goals as goal
 
 pub returns : goal.returns
 returns c =
-    let p = c.in-ok-twice.ensures in
+    let p = c.in_ok-twice.ensures in
     let n = counter_counts p in
     let f = put_fits p in
     (omega arith, omega arith)

@@ -4,9 +4,9 @@ use Rattle.sink.proofs.Ends.{page_holds, page_short, page_full, page_memory, pag
 use Rattle.sink.proofs.Puts.{put_fits}
 use Rattle.sink_tests.proofs.page_twice.Goals as goal
 
-pub returns-in-err-twice : goal.returns-in-err-twice
-returns-in-err-twice c =
-    let p = c.in-err-twice.ensures in
+pub returns-in_err-twice : goal.returns-in_err-twice
+returns-in_err-twice c =
+    let p = c.in_err-twice.ensures in
     let s = page_short p in
     let w = page_full p in
     let n = page_memory c.new-page.ensures.place p in
@@ -14,7 +14,7 @@ returns-in-err-twice c =
 
 pub returns : goal.returns
 returns c =
-    let p = c.in-ok-twice.ensures in
+    let p = c.in_ok-twice.ensures in
     let f = put_fits p in
     let h = page_holds p in
     let k = ap (λ (x : List ℕ). length x) h in

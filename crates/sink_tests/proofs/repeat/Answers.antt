@@ -8,11 +8,11 @@ pub loop-init : goal.loop-init
 loop-init g c = owes_as (repeat_start _ _) (owes_all _ _)
 
 pub loop-preserved : goal.loop-preserved
-loop-preserved g c = owes_put _ (owes_as (repeat_next _ _ _ c.loop-test.true) c.loop.invariant) c.in-ok-put-all.ensures
+loop-preserved g c = owes_put _ (owes_as (repeat_next _ _ _ c.loop-test.true) c.loop.invariant) c.in_ok-put_all.ensures
 
-pub returns-in-err-put-all : goal.returns-in-err-put-all
-returns-in-err-put-all g c =
-    put_exit _ c.from-residual.ensures (owes_full _ (owes_as (repeat_next _ _ _ c.loop-test.true) c.loop.invariant) c.in-err-put-all.ensures)
+pub returns-in_err-put_all : goal.returns-in_err-put_all
+returns-in_err-put_all g c =
+    put_exit _ c.from_residual.ensures (owes_full _ (owes_as (repeat_next _ _ _ c.loop-test.true) c.loop.invariant) c.in_err-put_all.ensures)
 
 pub returns : goal.returns
 returns g c = owes_none (owes_as (repeat_end _ _ _ c.loop-test.false) c.loop.invariant)

@@ -11,4 +11,4 @@ returns-then-run-eq0 c =
 pub returns : goal.returns
 returns c =
     let l = length-units c.args.dump.now c.args.run.start c.args.run.count in
-    record { is = grind (arith, nat_tests); small = c.number-within.ensures.small }
+    record { is = grind (arith, nat_tests); small = c.number_within.ensures.small }

@@ -20,5 +20,5 @@ returns-in-9 c = let e = part_at_lem (bytes c.args.raw.now) c.args.raw.now.layou
 pub returns-in-10 : goal.returns-in-10
 returns-in-10 c = let e = part_at_lem (bytes c.args.raw.now) c.args.raw.now.layout c.args.row c.args.k no_part c.requires.below in search rules
 
-pub returns-in-default : goal.returns-in-default
-returns-in-default c = let e = part_at_lem (bytes c.args.raw.now) c.args.raw.now.layout c.args.row c.args.k no_part c.requires.below in search rules
+pub returns-in_default : goal.returns-in_default
+returns-in_default c = let e = part_at_lem (bytes c.args.raw.now) c.args.raw.now.layout c.args.row c.args.k no_part c.requires.below in search rules

@@ -1,4 +1,4 @@
-use Rattle.std.proofs.Common.{◌≡◌, is_ok, sym, ap, ◌∙◌, arith}
+use Rattle.std.proofs.Common.{is_ok, sym, ap, ◌∙◌, arith}
 use Rattle.std.proofs.lemmas.Result.{err_from_is_err_and}
 use Rattle.dump.specs.Places.{row_at}
 use Rattle.dump.specs.Raws.{bytes}
@@ -8,22 +8,22 @@ use Rattle.rules.specs.Objects.{parts_below, bytes_below}
 use Rattle.rules.proofs.Sound.{passed, runs_fit, bytes_fit, parts_more, bytes_more}
 use Rattle.rules.proofs.objects.object_rows.Goals as goal
 
-pub returns-in-err-object-row : goal.returns-in-err-object-row
-returns-in-err-object-row c =
-    let p = err_from_is_err_and c.from-residual.result c.from-residual.ensures.1 in
-    rw (p.1, p.2) (sym (each_stop _ c.loop-i.i c.args.raw.now.layout.objects.count _ c.loop-i.invariant.0 (sym c.in-err-object-row.ensures) (omega arith)))
+pub returns-in_err-object_row : goal.returns-in_err-object_row
+returns-in_err-object_row c =
+    let p = err_from_is_err_and c.from_residual.result c.from_residual.ensures.1 in
+    rw (p.1, p.2) (sym (each_stop _ c.loop-i.i c.args.raw.now.layout.objects.count _ c.loop-i.invariant.0 (sym c.in_err-object_row.ensures) (omega arith)))
 
 pub loop-i-preserved : goal.loop-i-preserved
 loop-i-preserved c =
     let b = bytes c.args.raw.now in
     let l = c.args.raw.now.layout in
     let i = c.loop-i.i in
-    let here = sym c.in-ok-object-row.ensures in
+    let here = sym c.in_ok-object_row.ensures in
     let kept = passed b l i (ap is_ok here) in
     let fit = runs_fit (row_at b l i) (parts_below b l i) l.parts.count (omega arith) kept.runs in
     let fit2 = bytes_fit (row_at b l i) (bytes_below b l i) l.octets.count (omega arith) kept.octets in
     let more = parts_more b l i in
     let more2 = bytes_more b l i in
-    let same = c.parts-in-parts.ensures.0 ∙ ap parts_in c.row-row.ensures in
-    let same2 = c.bytes-in-octets.ensures.0 ∙ ap bytes_in c.row-row.ensures in
+    let same = c.parts_in-parts.ensures.0 ∙ ap parts_in c.row-row.ensures in
+    let same2 = c.bytes_in-octets.ensures.0 ∙ ap bytes_in c.row-row.ensures in
     (each_more _ i c.loop-i.invariant.0 here, omega arith, omega arith, omega arith, omega arith)

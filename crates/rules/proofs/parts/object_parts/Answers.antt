@@ -1,4 +1,4 @@
-use Rattle.std.proofs.Common.{◌+◌, ◌≤◌, sym, ap, ◌∙◌, subst, arith, rules}
+use Rattle.std.proofs.Common.{◌+◌, ◌≤◌, sym, ap, ◌∙◌, subst}
 use Rattle.dump.specs.Places.{row_at}
 use Rattle.dump.specs.Raws.{bytes}
 use Rattle.rules.specs.Objects.{parts_below}
@@ -7,24 +7,24 @@ use Rattle.rules.specs.declared.role.PartRun.{PartRun}
 use Rattle.rules.proofs.Sound.{object_passed, first_fits, second_fits}
 use Rattle.rules.proofs.parts.object_parts.Goals as goal
 
-pub part-run-requires : goal.part-run-requires
-part-run-requires c =
+pub part_run-requires : goal.part_run-requires
+part_run-requires c =
     let b = bytes c.args.raw.now in
     let l = c.args.raw.now.layout in
     let fits = first_fits (row_at b l c.args.i) (parts_below b l c.args.i) l.parts.count (object_passed b l c.args.i c.requires.sound.1 c.requires.here).runs in
     record {
-      here = subst (λ (r : PartRun). r.first + r.count ≤ l.parts.count) (sym (c.first-run.ensures ∙ ap first_run c.row-row.ensures)) fits;
+      here = subst (λ (r : PartRun). r.first + r.count ≤ l.parts.count) (sym (c.first_run.ensures ∙ ap first_run c.row-row.ensures)) fits;
       sound = c.requires.sound.0;
       marked = c.requires.marked;
     }
 
-pub part-run-requires-2 : goal.part-run-requires-2
-part-run-requires-2 c =
+pub part_run-requires-2 : goal.part_run-requires-2
+part_run-requires-2 c =
     let b = bytes c.args.raw.now in
     let l = c.args.raw.now.layout in
     let fits = second_fits (row_at b l c.args.i) (parts_below b l c.args.i) l.parts.count (object_passed b l c.args.i c.requires.sound.1 c.requires.here).runs in
     record {
-      here = subst (λ (r : PartRun). r.first + r.count ≤ l.parts.count) (sym (c.second-run.ensures ∙ ap second_run c.row-row.ensures)) fits;
+      here = subst (λ (r : PartRun). r.first + r.count ≤ l.parts.count) (sym (c.second_run.ensures ∙ ap second_run c.row-row.ensures)) fits;
       sound = c.requires.sound.0;
       marked = c.requires.marked;
     }

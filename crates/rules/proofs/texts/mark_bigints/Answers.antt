@@ -9,4 +9,4 @@ loop-t-preserved c =
     below_more _ _
     (λ k h. let ne : k ≢ c.loop-t.t = omega arith in rw get_or-set_other (c.loop-t.invariant k h))
     (let lt : c.loop-t.t < length c.loop-t.marks = omega arith in
-    rw get_or-set_same (c.is-bigint.ensures ∙ ap (λ r. is_big_int (units_of (bytes c.args.raw.now) r)) c.run-of.ensures.is))
+    rw get_or-set_same (c.is_bigint.ensures ∙ ap (λ r. is_big_int (units_of (bytes c.args.raw.now) r)) c.run_of.ensures.is))

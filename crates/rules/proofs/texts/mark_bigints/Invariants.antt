@@ -1,4 +1,4 @@
-use Rattle.std.proofs.Common.{◌≡◌, ℕ, ◌<◌, false, length, get_or}
+use Rattle.std.proofs.Common.{◌≡◌, ℕ, ◌<◌, false, get_or}
 use Rattle.dump.specs.Places.{text_of}
 use Rattle.dump.specs.Raws.{bytes}
 use Rattle.numeral.specs.Numerals.{is_big_int}

@@ -1,4 +1,4 @@
-use Rattle.std.proofs.Common.{arith, rules}
+use Rattle.std.proofs.Common.{rules}
 use Rattle.dump.specs.Raws.{bytes}
 use Rattle.rules.proofs.Sound.{run_fits}
 use Rattle.rules.proofs.texts.run_of.Goals as goal

@@ -6,13 +6,13 @@ use Rattle.heap_check.proofs.checked.Checked.kind.Goals as goal
 pub row-requires : goal.row-requires
 row-requires c = an_object c.args.self.now c.args.i c.requires
 
-pub kind-of-requires : goal.kind-of-requires
-kind-of-requires c =
+pub kind_of-requires : goal.kind_of-requires
+kind_of-requires c =
     let row = row_at_lem c.args.self.now c.args.i c.requires c.row.result c.row.ensures in
     record { sound = (passed c.args.self.now).texts; placed = row.numbers; known = row.known; within = row.within }
 
 pub returns : goal.returns
 returns c = record {
-  is = c.kind-of.ensures.is ∙ kind_at_lem c.args.self.now c.args.i c.requires c.row.result c.row.ensures;
-  fits = c.kind-of.ensures.fits;
+  is = c.kind_of.ensures.is ∙ kind_at_lem c.args.self.now c.args.i c.requires c.row.result c.row.ensures;
+  fits = c.kind_of.ensures.fits;
 }

@@ -4,8 +4,8 @@ use Rattle.dump.specs.Heaps.{Numeral}
 use Rattle.heap_check.proofs.Held.{a_numeral, numeral_at}
 use Rattle.heap_check.proofs.checked.Checked.numeral_bits.Goals as goal
 
-pub numeral-bits-requires : goal.numeral-bits-requires
-numeral-bits-requires c = a_numeral c.args.self.now c.args.i c.requires
+pub numeral_bits-requires : goal.numeral_bits-requires
+numeral_bits-requires c = a_numeral c.args.self.now c.args.i c.requires
 
 pub returns : goal.returns
-returns c = c.numeral-bits.ensures ∙ sym (ap (λ (n : Numeral). n.bits) (numeral_at c.args.self.now c.args.i c.requires))
+returns c = c.numeral_bits.ensures ∙ sym (ap (λ (n : Numeral). n.bits) (numeral_at c.args.self.now c.args.i c.requires))

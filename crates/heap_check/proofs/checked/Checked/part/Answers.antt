@@ -8,16 +8,16 @@ use Rattle.heap_check.proofs.checked.Checked.part.Goals as goal
 pub row-requires : goal.row-requires
 row-requires c = an_object c.args.self.now c.args.i c.requires.object
 
-pub part-of-requires : goal.part-of-requires
-part-of-requires c =
+pub part_of-requires : goal.part_of-requires
+part_of-requires c =
     let part = part_there c.args.self.now c.args.i c.requires.object c.row.result c.row.ensures c.args.k c.requires.part in
     record { sound = (passed c.args.self.now).texts; below = part.under; on = part.on; placed = part.placed }
 
 pub returns : goal.returns
 returns c = record {
   is =
-      c.part-of.ensures.is
+      c.part_of.ensures.is
       ∙ ap (λ (ps : List Part). get_or ps c.args.k no_part) (parts_at c.args.self.now c.args.i c.requires.object c.row.result c.row.ensures);
-  fits = c.part-of.ensures.fits;
-  there = rw objects_are c.part-of.ensures.there;
+  fits = c.part_of.ensures.fits;
+  there = rw objects_are c.part_of.ensures.there;
 }

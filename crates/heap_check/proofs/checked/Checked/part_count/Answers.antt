@@ -7,4 +7,4 @@ pub row-requires : goal.row-requires
 row-requires c = an_object c.args.self.now c.args.i c.requires
 
 pub returns : goal.returns
-returns c = c.part-count.ensures ∙ count_at c.args.self.now c.args.i c.requires c.row.result c.row.ensures
+returns c = c.part_count.ensures ∙ count_at c.args.self.now c.args.i c.requires c.row.result c.row.ensures

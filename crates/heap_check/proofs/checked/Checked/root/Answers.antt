@@ -5,14 +5,14 @@ use Rattle.heap_check.specs.Heaps.{dump_of}
 use Rattle.heap_check.proofs.Held.{passed, objects_are}
 use Rattle.heap_check.proofs.checked.Checked.root.Goals as goal
 
-pub value-of-requires : goal.value-of-requires
-value-of-requires c =
+pub value_of-requires : goal.value_of-requires
+value_of-requires c =
     let h = c.args.self.now in
     record { sound = (passed h).texts; placed = rw c.root.ensures (root_placed (dump_of h) h.raw.layout (passed h)) }
 
 pub returns : goal.returns
 returns c = record {
   is = search rules;
-  fits = c.value-of.ensures.fits;
-  there = rw objects_are c.value-of.ensures.there;
+  fits = c.value_of.ensures.fits;
+  there = rw objects_are c.value_of.ensures.there;
 }

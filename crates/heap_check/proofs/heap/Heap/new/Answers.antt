@@ -4,9 +4,9 @@ use Rattle.dump.specs.Layouts.{section_at}
 use Rattle.dump.specs.Places.{cell_at}
 use Rattle.heap_check.proofs.heap.Heap.new.Goals as goal
 
-pub invariant-of-result : goal.invariant-of-result
+pub invariant_of-result : goal.invariant_of-result
 unfolding word section_at cell_at
-invariant-of-result c = (refl, (refl, (refl, tt)))
+invariant_of-result c = record { bytes = refl; laid = refl; sound = refl }
 
 pub returns : goal.returns
 unfolding word section_at cell_at
