@@ -1,9 +1,9 @@
 -- What was sent stands at the ends.
-use Rattle.std.proofs.Common.{◌≡◌, ℕ, ◌<◌, ◌≤◌, List, [], ◌++◌, length, Some, None, Ok, Err, Option, Result, sym, refl, ap, ◌∙◌, subst, arith}
+use Rattle.std.proofs.Common.{◌≡◌, ℕ, List, [], ◌++◌, length, Some, None, Ok, Err, Option, ap, ◌∙◌, arith}
 use Rattle.sink.specs.declared.counter.Counter.{Counter}
 use Rattle.sink.specs.declared.page.Page.{Page}
 use Rattle.sink.specs.Sinks.{counter_means, page_means}
-use Rattle.sink.proofs.Ends.{counter_counts, counter_short, page_holds, page_short, page_length}
+use Rattle.sink.proofs.Ends.{counter_counts, counter_short, page_holds, page_short}
 use Rattle.sink.proofs.Puts.{put_fits}
 use Rattle.speller.specs.declared.fault.SpellFault.TheVariants.{Short, Unspelled}
 use Rattle.numbers.specs.declared.fault.NumberFault.{NumberFault}

@@ -1,4 +1,3 @@
-use Rattle.std.proofs.Common.{length}
 use Rattle.std.proofs.lemmas.Result.{err_from_is_err_and}
 use Rattle.numbers_tests.proofs.Ends.{counted, not_counted}
 use Rattle.numbers_tests.proofs.count_number.Goals as goal
