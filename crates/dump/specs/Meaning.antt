@@ -9,7 +9,7 @@ use Rattle.dump.specs.declared.row.Row.{Row}
 use Rattle.dump.specs.Bytes.{bytes_at}
 use Rattle.dump.specs.Kinds.{view_kind, error_name}
 use Rattle.dump.specs.Places.{text_of, numeral_bits, numeral_text, row_at, key_at, value_at, root_at}
-use Rattle.dump.specs.Heaps.{Text, Value, undefined, null, hole, boolean, whole, double, bigint, text, object, Key, index, name, Kind, boolean_object, number_object, bigint_object, string_object, regexp, date, plain, sparse, dense, map as map-kind, set as set-kind, buffer, view, error, Part, property, element, entry, member, below, cause, Object, Numeral, Heap}
+use Rattle.dump.specs.Heaps.{Text, Value, undefined, null, hole, boolean, whole, double, bigint, text, object, Key, index, name, Kind, boolean_object, number_object, bigint_object, string_object, regexp, date, plain, sparse, dense, map as map_kind, set as set_kind, buffer, view, error, Part, property, element, entry, member, below, cause, Object, Numeral, Heap}
 
 -- a low and a high word as one number of 64 bits
 abbrev pub joined : ℕ → ℕ → ℕ
@@ -54,8 +54,8 @@ module _ (b : List ℕ) (l : Layout) where
       (cond (r.kind == 6) plain
       (cond (r.kind == 7) (sparse r.c)
       (cond (r.kind == 8) (dense r.b)
-      (cond (r.kind == 9) map-kind
-      (cond (r.kind == 10) set-kind
+      (cond (r.kind == 9) map_kind
+      (cond (r.kind == 10) set_kind
       (cond (r.kind == 11) (buffer (bytes_at b (l.octets.start + r.a) r.b) (cond (r.c == 1) (Some r.d) None))
       (cond (r.kind == 12) (view (view_kind r.b) r.c (cond (r.e % 2 == 1) 0 r.d) (r.e % 2 == 1))
       (error (error_name r.a) (maybe_text r.b) (maybe_text r.c))))))))))))))

@@ -1,6 +1,6 @@
 -- What a statement must keep to for its text to be read back: numbers in range, numerals for its doubles, texts of units, bytes in whole elements, no hole in a Set.
 use Rattle.std.specs.Prelude.{◌≡◌, ℕ, ◌%◌, ◌<◌, ◌≤◌, Bool, true, false, List, [], ◌∷◌, ◌++◌, length, Some, None, Option}
-use Rattle.std.specs.List.{AllByRecursion as All}
+use Rattle.std.specs.List.{AllByRecursion}
 use Rattle.dump.specs.declared.kinds.ViewKind.{ViewKind}
 use Rattle.dump.specs.Heaps as heaps
 use Rattle.dump.specs.Heaps.{Text, Value, Key, index, name}
@@ -30,7 +30,7 @@ IsNumbers floats = ⊥
 pub record Data (k : ViewKind) (bytes : List ℕ) : Type 0 where
   pub typed : is_typed k ≡ true
   pub small : Small (length bytes)
-  pub octets : All (λ x. x < 256) bytes
+  pub octets : AllByRecursion (λ x. x < 256) bytes
   pub even : length bytes % width k ≡ 0
 
 abbrev pub KeyReadable : Key → Type 0

@@ -100,15 +100,15 @@ has_comma (cons t ts) = is_mark 44 t || has_comma ts
 
 -- brackets behind what was read: an array, an expression in brackets (with no comma), arguments
 abbrev pub bracket : Partial → ℕ → Bool → List (Option Val) → State → Option Stepped
-bracket nothing c comma-inside vs s =
+bracket nothing c comma_inside vs s =
     cond (c == 91) (of_made (make (array (length vs)) (element_slots 0 vs) s))
-    (when (not comma-inside) (and_then (only_val vs) (λ v. stepped (got v) s)))
-bracket (got v) c comma-inside vs s = None
-bracket negative c comma-inside vs s = None
-bracket new_word c comma-inside vs s = None
-bracket (new_of w) c comma-inside vs s = when (c == 40) (and_then (all_vals vs) (λ us. of_made (construct w us s)))
-bracket (dotted v) c comma-inside vs s = None
-bracket (method v w) c comma-inside vs s = when (c == 40) (and_then (all_vals vs) (λ us. of_made (call w v us s)))
+    (when (not comma_inside) (and_then (only_val vs) (λ v. stepped (got v) s)))
+bracket (got v) c comma_inside vs s = None
+bracket negative c comma_inside vs s = None
+bracket new_word c comma_inside vs s = None
+bracket (new_of w) c comma_inside vs s = when (c == 40) (and_then (all_vals vs) (λ us. of_made (construct w us s)))
+bracket (dotted v) c comma_inside vs s = None
+bracket (method v w) c comma_inside vs s = when (c == 40) (and_then (all_vals vs) (λ us. of_made (call w v us s)))
 
 abbrev pub braced : Partial → List Slot → State → Option Stepped
 braced nothing ss s = of_made (make ordinary ss s)

@@ -2,7 +2,7 @@
 use Rattle.std.specs.Prelude.{◌≡◌, ℕ, ◌+◌, ◌*◌, ◌%◌, ◌^◌, ◌<◌, ◌≤◌, Bool, true, false, ◌⊎◌, List, [], ◌∷◌, length, take, drop, ℤ, pos, negsuc, is_some, Some, None, codes, Option, ◌≢◌, slice_index_or, Float}
 use Rattle.std.specs.Float.Ieee as Ieee
 use Rattle.std.specs.Float.{binary64}
-use Rattle.std.specs.List.{AllByRecursion as All}
+use Rattle.std.specs.List.{AllByRecursion}
 use Rattle.dump.specs.declared.kinds.ViewKind.{ViewKind}
 use Rattle.dump.specs.Kinds.{width}
 use Rattle.dump.specs.Heaps.{Text, Value, undefined, null, hole, boolean, whole, double, bigint, text, object, Key, index, name, Kind, boolean_object, number_object, bigint_object, string_object, regexp, date, plain, sparse, dense, map, set, buffer, view, error, Part, property, element, entry, member, below, cause, Object, nobody, Numeral, Heap}
@@ -14,10 +14,10 @@ use Rattle.shapes.specs.Cells.{same_number}
 -- R holds of each element and every later one
 abbrev pub Pairwise : {X : Type 0} → (X → X → Type 0) → List X → Type 0
 Pairwise R [] = Unit {0}
-Pairwise R (x ∷ xs) = All (R x) xs × Pairwise R xs
+Pairwise R (x ∷ xs) = AllByRecursion (R x) xs × Pairwise R xs
 
 abbrev pub Units : Text → Type 0
-Units t = All (λ u. u < 65536) t
+Units t = AllByRecursion (λ u. u < 65536) t
 
 -- signed or unsigned, in 32 bits
 abbrev pub WholeFits : ℤ → Type 0
@@ -97,7 +97,7 @@ abbrev pub MemberApart : Part → Part → Type 0
 MemberApart p q = (v v' : Value) → p ≡ member v → q ≡ member v' → SameValueZero v v' → ⊥
 
 abbrev pub Properties : ℕ → ℕ → Bool → List Part → Type 0
-Properties n limit array ps = All (PropertyFormed n limit array) ps × Pairwise PropertyBefore ps
+Properties n limit array ps = AllByRecursion (PropertyFormed n limit array) ps × Pairwise PropertyBefore ps
 
 abbrev pub kind_at : Heap → ℕ → Kind
 kind_at h o = (slice_index_or h.objects o nobody).kind
@@ -141,7 +141,7 @@ KindFormed (sparse n) = n < 4294967296
 KindFormed (dense n) = n < 4294967296
 KindFormed map = Unit {0}
 KindFormed set = Unit {0}
-KindFormed (buffer bytes maximum) = All (λ x. x < 256) bytes × MaximumFits (length bytes) maximum
+KindFormed (buffer bytes maximum) = AllByRecursion (λ x. x < 256) bytes × MaximumFits (length bytes) maximum
 KindFormed (view k offset n tracking) = Unit {0}
 KindFormed (error n message stack) = MaybeUnits message × MaybeUnits stack
 
@@ -154,22 +154,22 @@ PartsFormed h n (regexp t flags) ps = ps ≡ []
 PartsFormed h n (date time) ps = ps ≡ []
 PartsFormed h n plain ps = Properties n 4294967295 false ps
 PartsFormed h n (sparse limit) ps = Properties n limit true ps
-PartsFormed h n (dense count) ps = (count ≤ length ps) × All (ElementFormed n) (take count ps) × Properties n 0 true (drop count ps)
-PartsFormed h n map ps = All (EntryFormed n) ps × Pairwise EntryApart ps
-PartsFormed h n set ps = All (MemberFormed n) ps × Pairwise MemberApart ps
+PartsFormed h n (dense count) ps = (count ≤ length ps) × AllByRecursion (ElementFormed n) (take count ps) × Properties n 0 true (drop count ps)
+PartsFormed h n map ps = AllByRecursion (EntryFormed n) ps × Pairwise EntryApart ps
+PartsFormed h n set ps = AllByRecursion (MemberFormed n) ps × Pairwise MemberApart ps
 PartsFormed h n (buffer bytes maximum) ps = ps ≡ []
 PartsFormed h n (view k offset count tracking) ps = ViewFormed h k offset count tracking ps
-PartsFormed h n (error e message stack) ps = (length ps ≤ 1) × All (CauseFormed n) ps
+PartsFormed h n (error e message stack) ps = (length ps ≤ 1) × AllByRecursion (CauseFormed n) ps
 
 abbrev pub ObjectFormed : Heap → Object → Type 0
 ObjectFormed h o = KindFormed o.kind × PartsFormed h (length h.objects) o.kind o.parts
 
 -- numerals are a lawful speller's: each that of its double, and no double and no numeral twice
 abbrev pub Lawful : List Numeral → Type 0
-Lawful ns = All (λ n. is_pair n.bits n.digits ≡ true) ns × Pairwise (λ m n. (m.bits ≢ n.bits) × (m.digits ≢ n.digits)) ns
+Lawful ns = AllByRecursion (λ n. is_pair n.bits n.digits ≡ true) ns × Pairwise (λ m n. (m.bits ≢ n.bits) × (m.digits ≢ n.digits)) ns
 
 pub record Formed (h : Heap) : Type 0 where
   pub few : length h.objects ≤ 4096
-  pub objects : All (ObjectFormed h) h.objects
+  pub objects : AllByRecursion (ObjectFormed h) h.objects
   pub numerals : Lawful h.numerals
   pub root : ValueFormed (length h.objects) h.root

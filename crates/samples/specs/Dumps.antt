@@ -1,6 +1,6 @@
 -- Sample dumps, each with the heap that it was made of.
 use Rattle.std.specs.Prelude.{◌≡◌, ℕ, ◌/◌, ◌%◌, List, [], ◌∷◌, ◌++◌, pos, Some, Ok, codes}
-use Rattle.std.specs.List.{AllByRecursion as All}
+use Rattle.std.specs.List.{AllByRecursion}
 use Rattle.dump.specs.Heaps.{Heap, whole, text, object, hole, name, plain, dense, map, date, property, element, entry}
 use Rattle.rules.specs.Verdicts.{verdict}
 
@@ -93,4 +93,4 @@ samples = five ∷ empty_map ∷ empty_object ∷ ring ∷ shared ∷ ring_map �
 
 -- each sample is accepted and means its heap
 abbrev pub SamplesStand : Type 0
-SamplesStand = All (λ s. verdict s.dump ≡ Ok s.heap) samples
+SamplesStand = AllByRecursion (λ s. verdict s.dump ≡ Ok s.heap) samples

@@ -1,6 +1,6 @@
 -- The scripts of the sample heaps in Repl form, line by line.
 use Rattle.std.specs.Prelude.{◌≡◌, ℕ, List, [], ◌∷◌, ◌++◌, map, None, Ok, codes, Option, Result}
-use Rattle.std.specs.List.{AllByRecursion as All}
+use Rattle.std.specs.List.{AllByRecursion}
 use Rattle.dump.specs.declared.refusal.Refusal.{Refusal}
 use Rattle.rules.specs.Verdicts.{verdict}
 use Rattle.dump.specs.Rules.{and_then}
@@ -64,8 +64,8 @@ scripts =
 
 -- each sample dump has just this script
 abbrev pub ScriptsStand : Type 0
-ScriptsStand = All (λ s. script s.sample.dump repl ≡ Ok s.lines) scripts
+ScriptsStand = AllByRecursion (λ s. script s.sample.dump repl ≡ Ok s.lines) scripts
 
 -- each script runs on the evaluator, and rebuilds its heap
 abbrev pub ScriptsRebuild : Type 0
-ScriptsRebuild = All (λ s. Rebuilt s.sample.heap s.lines) scripts
+ScriptsRebuild = AllByRecursion (λ s. Rebuilt s.sample.heap s.lines) scripts
