@@ -8,11 +8,12 @@ use Rattle.script.specs.Texts.{all_zero}
 use Rattle.formed.specs.Formed.{PropertyFormed, ElementFormed, EntryFormed, MemberFormed, CauseFormed, PartsFormed, Formed}
 use Rattle.planner.specs.Visits.{refs, refs_of, edges_of, object_at, edges}
 use Rattle.planner.specs.Names.{count, slot, ready_before}
-use Rattle.planner.specs.Lates.{sets, puts, adds, Late, stack_value, late_properties, late_elements, late_members, late_causes, late_bytes, lates_by, lates}
+use Rattle.planner.specs.Lates.{sets, puts, adds, Late, late_properties, late_elements, late_members, late_causes, late_bytes, lates_by, lates}
 use Rattle.rebuilds.specs.Makes.{within, written_parts, written_by, written, task_makes}
 use Rattle.places.proofs.Objects.{formed_at}
 use Rattle.places.proofs.Lates.{edges_split}
 use Rattle.counts.proofs.Inner.{count_within}
+use Rattle.effects.specs.Plans.{stack_text}
 
 module _ (h : Heap) (order : List ℕ) (y : ℕ) where
   -- how often follow-ups make y
@@ -154,7 +155,7 @@ module _ (h : Heap) (order : List ℕ) (y : ℕ) where
         by_ready v false ih = let e = value_within v (edges_of ps) in omega arith
 
     -- a stack refers to nothing, and so do bytes
-    stack_made : (stack : Option Text) → W (refs (stack_value stack)) ≡ 0
+    stack_made : (stack : Option Text) → W (refs (stack_text stack)) ≡ 0
     stack_made None = refl
     stack_made (Some s) = refl
 
@@ -193,7 +194,7 @@ module _ (h : Heap) (order : List ℕ) (y : ℕ) where
     kind_made (heaps.error e message stack) ps p =
         let a = causes_made _ ps p.1 in
         let b = stack_made stack in
-        let c = lates_append (late_causes h order o t ps) (record { target = o; task = sets (name (codes "stack")) (stack_value stack); ordered = false } ∷ []) in
+        let c = lates_append (late_causes h order o t ps) (record { target = o; task = sets (name (codes "stack")) (stack_text stack); ordered = false } ∷ []) in
         omega arith
 
   -- what is written and what follows are together all that hangs in an object

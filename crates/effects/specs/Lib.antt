@@ -1,3 +1,4 @@
 pub mod Effects
 pub mod Readable
 pub mod Tokens
+pub mod Plans

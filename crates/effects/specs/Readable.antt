@@ -12,7 +12,7 @@ use Rattle.script.specs.Syntax as syntax
 use Rattle.script.specs.Syntax.{Form, named, buffer_of_named, circular, new_boolean, new_number, new_bigint, new_string, new_regexp, new_date, new_array, empty_map_form, empty_set_form, buffer_form, new_resizable, data_buffer, new_typed, typed_part, subarray, Group, braces, brackets, map_group, set_group, error_group, view_group, Expr, value, form, group, Items, none, item, keyed, pair, Stmt, opening, const, assign, put, add, fill, last, return}
 use Rattle.script.specs.Texts.{Listing, numbers, floats, listing}
 use Rattle.evaluator.specs.Makes.{is_typed}
-use Rattle.planner.specs.Lines.{in_braces}
+use Rattle.effects.specs.Plans.{braced}
 
 -- in 32 bits
 abbrev pub Small : ℕ → Type 0
@@ -125,5 +125,5 @@ module _ (numeral : ℕ → Option (List ℕ)) where
   StmtReadable (add n e) = Small n × ExprReadable e
   StmtReadable (fill n k bytes) = Small n × Data k bytes × IsNumbers (listing k)
   -- braces that begin a line would be a block
-  StmtReadable (last b e) = ExprReadable e × (in_braces e ≡ true → b ≡ true)
+  StmtReadable (last b e) = ExprReadable e × (braced e ≡ true → b ≡ true)
   StmtReadable (return e) = ExprReadable e

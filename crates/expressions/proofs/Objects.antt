@@ -9,7 +9,7 @@ use Rattle.script.specs.Syntax.{none, item}
 use Rattle.planner.specs.Visits.{refs, edges, edges_of, object_at}
 use Rattle.planner.specs.Names.{count, slot, ready_before}
 use Rattle.planner.specs.Builds.{value_expr, kind_expr, object_expr, built}
-use Rattle.planner.specs.Lates.{Late, sets, stack_value, late_members, late_causes, lates_by, lates}
+use Rattle.planner.specs.Lates.{Late, sets, late_members, late_causes, lates_by, lates}
 use Rattle.evaluator.specs.Options.{and_then}
 use Rattle.evaluator.specs.Stores.{Val, Shape, ordinary, array, mapping, setting, error, Slot, keyed, single, Obj, State, make}
 use Rattle.evaluator.specs.Makes.{members}
@@ -30,6 +30,7 @@ use Rattle.expressions.proofs.Finish.{finish}
 use Rattle.expressions.proofs.Readies.{Holds, ReadyGood, ready_good}
 use Rattle.expressions.proofs.Members.{MembersGood, members_good}
 use Rattle.expressions.proofs.Entries.{EntriesGood, entries_good}
+use Rattle.effects.specs.Plans.{stack_text}
 
 -- a part that is a cause
 on_cause : (P : Part → Type 0) (n : ℕ) → ((v : Value) → ValueFormed n v → P (cause v)) → (p : Part) → CauseFormed n p → P p
@@ -126,7 +127,7 @@ module _ (h : Heap) (f : Formed h) (order : List ℕ) (ad : Adequate h order) (b
 
   module _ (m : ErrorName) (message stack : Option Text) where
     -- the stack is always left to do
-    stack_waits : (ps : List Part) → In (record { target = x; task = sets (name (codes "stack")) (stack_value stack); ordered = false }) (lates_by h order x T (heaps.error m message stack) ps)
+    stack_waits : (ps : List Part) → In (record { target = x; task = sets (name (codes "stack")) (stack_text stack); ordered = false }) (lates_by h order x T (heaps.error m message stack) ps)
     stack_waits ps = in_right (late_causes h order x T ps) here
 
     -- the references of a cause, if it is ready
@@ -196,7 +197,7 @@ module _ (h : Heap) (f : Formed h) (order : List ℕ) (ad : Adequate h order) (b
         cause_late = record { target = x; task = sets (name (codes "cause")) v; ordered = false }
 
         stack_late : Late
-        stack_late = record { target = x; task = sets (name (codes "stack")) (stack_value stack); ordered = false }
+        stack_late = record { target = x; task = sets (name (codes "stack")) (stack_text stack); ordered = false }
 
     error_whole : (own : Pairing) (s : State) → Ready h order own t s → (ps : List Part) → PartsFormed h (length h.objects) (heaps.error m message stack) ps → HeldAt (edges_of ps) → Fresh own (λ y. count y (within h order (written_parts h order T ps)))
         → Whole h order x own s (heaps.error m message stack) ps

@@ -3,9 +3,10 @@ use Rattle.std.proofs.Common.{◌≡◌, ℕ, zero, suc, ◌+◌, ◌<◌, ◌�
 use Rattle.dump.specs.Heaps.{Value, Key, index, name, Kind, boolean_object, number_object, bigint_object, string_object, regexp, date, plain, sparse, dense, map, set, buffer, view, error, Part, property, element, entry, member, below, cause, Heap}
 use Rattle.script.specs.Texts.{listing, all_zero}
 use Rattle.planner.specs.Names.{data_kind}
-use Rattle.planner.specs.Lates.{Task, sets, puts, adds, fills, Late, bytes_kind, stack_value, ready, late_properties, late_elements, late_members, late_causes, late_bytes, lates_by}
+use Rattle.planner.specs.Lates.{Task, sets, puts, adds, fills, Late, bytes_kind, ready, late_properties, late_elements, late_members, late_causes, late_bytes, lates_by}
 use Rattle.rebuilds.specs.Pending.{In, here, there}
 use Rattle.pending.proofs.Lists.{in_cases, in-++}
+use Rattle.effects.specs.Plans.{stack_text}
 
 -- the value of the element at an index, where the first part is at i
 pub data ElementAt : ℕ → List Part → ℕ → Value → Type 0 where
@@ -171,6 +172,6 @@ module _ (h : Heap) (order : List ℕ) (o t : ℕ) (l : Late) where
   task_of (view k offset n tracking) ps i = elim i [ ]
   task_of (error n message stack) ps i =
       ⊎_elim (λ (u : In l (late_causes h order o t ps)). let q = in_causes ps u in (name (codes "cause"), q.0, q.2))
-      (λ (u : In l (record { target = o; task = sets (name (codes "stack")) (stack_value stack); ordered = false } ∷ [])).
-      ⊎_elim (λ (e : l ≡ record { target = o; task = sets (name (codes "stack")) (stack_value stack); ordered = false }). (name (codes "stack"), stack_value stack, ap (λ x. x.task) e)) (λ (j : In l []). elim j [ ]) (in_cases u))
+      (λ (u : In l (record { target = o; task = sets (name (codes "stack")) (stack_text stack); ordered = false } ∷ [])).
+      ⊎_elim (λ (e : l ≡ record { target = o; task = sets (name (codes "stack")) (stack_text stack); ordered = false }). (name (codes "stack"), stack_text stack, ap (λ x. x.task) e)) (λ (j : In l []). elim j [ ]) (in_cases u))
       (in-++ (late_causes h order o t ps) i)

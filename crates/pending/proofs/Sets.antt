@@ -10,7 +10,7 @@ use Rattle.formed.specs.Formed as formed
 use Rattle.formed.specs.Formed.{KeyFormed, PropertyFormed, ElementFormed, KindFormed, PartsFormed, ObjectFormed, Formed}
 use Rattle.planner.specs.Visits.{object_at}
 use Rattle.planner.specs.Names.{slot}
-use Rattle.planner.specs.Lates.{Task, sets, puts, adds, fills, Late, stack_value, late_properties, late_elements, late_causes, late_members, lates_by, lates}
+use Rattle.planner.specs.Lates.{Task, sets, puts, adds, fills, Late, late_properties, late_elements, late_causes, late_members, lates_by, lates}
 use Rattle.evaluator.specs.Options.{and_then, when}
 use Rattle.evaluator.specs.Stores.{Val, undefined, text, Shape, ordinary, array, error, Slot, keyed, single, Obj, has_key, set_key, add_key, with_key}
 use Rattle.evaluator.specs.Makes.{message_in}
@@ -26,6 +26,7 @@ use Rattle.pending.proofs.Waits.{waits_other, waits_ordered}
 use Rattle.pending.proofs.Properties.{plain_set, array_set}
 use Rattle.pending.proofs.Elements.{elements_waits, elements_lack, has_element, set_elements}
 use Rattle.pending.proofs.Done.{object_formed}
+use Rattle.effects.specs.Plans.{stack_text}
 
 -- the one part of a short list
 pub in_single : {A : Type 0} {a : A} (xs : List A) → length xs ≤ 1 → In a xs → xs ≡ a ∷ []
@@ -153,7 +154,7 @@ module _ (own : Pairing) (o : ℕ) (K L : List Late) (l : Late) (k : Key) (v : V
           record {
             trace = r.trace;
             shape = r.shape;
-            stacked = ⊎_elim (λ x. inl x) (λ x. inr (x.0, waits_other o K L l (sets (name (codes "stack")) (stack_value stack)) (λ y. other (sym (task ∙ ap (λ z. sets z v) c) ∙ y)) x.1)) r.stacked;
+            stacked = ⊎_elim (λ x. inl x) (λ x. inr (x.0, waits_other o K L l (sets (name (codes "stack")) (stack_text stack)) (λ y. other (sym (task ∙ ap (λ z. sets z v) c) ∙ y)) x.1)) r.stacked;
             caused = inl (subst (λ z. AlikeParts own 0 z (single w ∷ [])) (sym (in_single ps f i)) (w, [], refl, a, refl));
           },
         )
@@ -161,11 +162,11 @@ module _ (own : Pairing) (o : ℕ) (K L : List Late) (l : Late) (k : Key) (v : V
         other : {u v : Value} → sets (name (codes "cause")) u ≡ sets (name (codes "stack")) v → ⊥
         other y = let z : codes "cause" ≡ codes "stack" = cc in true≢false (ap (same_units (codes "cause")) z)
 
-    message_in_lem : (stack : Option Text) (w : Val) → Alike own (stack_value stack) w → message_in w ≡ Some stack
+    message_in_lem : (stack : Option Text) (w : Val) → Alike own (stack_text stack) w → message_in w ≡ Some stack
     message_in_lem None w a = ap message_in a
     message_in_lem (Some s) w a = ap message_in a
 
-    stack_mended : k ≡ name (codes "stack") → v ≡ stack_value stack → Failure own o (K ++ (l ∷ L)) e message stack ps (error e message trace) ss → Mended (heaps.error e message stack) ps (error e message trace) ss
+    stack_mended : k ≡ name (codes "stack") → v ≡ stack_text stack → Failure own o (K ++ (l ∷ L)) e message stack ps (error e message trace) ss → Mended (heaps.error e message stack) ps (error e message trace) ss
     stack_mended c d r =
         subst (λ z. (u : Obj) × (assigned (key_text z) w (error e message trace) ss ≡ Some u) × Pends own o (K ++ L) (heaps.error e message stack) ps u.shape u.slots) (sym c) (
           record { shape = error e message stack; slots = ss },
@@ -192,12 +193,12 @@ module _ (own : Pairing) (o : ℕ) (K L : List Late) (l : Late) (k : Key) (v : V
       let d : k ≡ name (codes "cause") = cc in
       let b : q.0 ≡ v = cc in
       cause_mended e message stack ps ss f.0 r.trace d (subst (λ z. In (cause z) ps) b q.1) same)
-      (λ (u : In l (record { target = o; task = sets (name (codes "stack")) (stack_value stack); ordered = false } ∷ [])).
+      (λ (u : In l (record { target = o; task = sets (name (codes "stack")) (stack_text stack); ordered = false } ∷ [])).
       ⊎_elim
-      (λ (b : l ≡ record { target = o; task = sets (name (codes "stack")) (stack_value stack); ordered = false }).
-      let c : sets (name (codes "stack")) (stack_value stack) ≡ sets k v = sym (ap (λ x. x.task) b) ∙ task in
+      (λ (b : l ≡ record { target = o; task = sets (name (codes "stack")) (stack_text stack); ordered = false }).
+      let c : sets (name (codes "stack")) (stack_text stack) ≡ sets k v = sym (ap (λ x. x.task) b) ∙ task in
       let d : k ≡ name (codes "stack") = cc in
-      let g : v ≡ stack_value stack = cc in
+      let g : v ≡ stack_text stack = cc in
       stack_mended e message stack ps ss f.0 r.trace d g same)
       (λ (j : In l []). elim j [ ])
       (in_cases u))

@@ -15,7 +15,7 @@ use Rattle.planner.specs.Visits.{refs, edges_of, edges, object_at, mem}
 use Rattle.planner.specs.Names.{ViewContent, view_in, buffer_in, is_view, kind_needs_name, pos, uses, turns, inlines, covers, backing, is_same, backed, slot, has_name, ready_before, first}
 use Rattle.planner.specs.Builds.{view_on, subarray_of, name_expr, value_expr, child_expr, element_items, items_of, buffer_expr, same_kind, on_named, on_inlined, view_by, view_expr, kind_expr, object_expr, build_all, built}
 use Rattle.planner.specs.Lates.{Task, sets, puts, adds, fills, Late}
-use Rattle.planner.specs.Lines.{Format, in_braces, target, has_line, expr_of, late_stmt, all_due, due_at, lines_at, wrapped, stmts, depth, depths, stmt_depth, not_deep}
+use Rattle.planner.specs.Lines.{Format, target, has_line, expr_of, late_stmt, all_due, due_at, lines_at, wrapped, stmts, depth, depths, stmt_depth, not_deep}
 use Rattle.visits.proofs.Lists.{mem_right, mem_head, once_before}
 use Rattle.visits.proofs.Orders.{place_split}
 use Rattle.rebuilds.specs.Adequate.{Adequate}
@@ -25,6 +25,7 @@ use Rattle.effects.proofs.Options.{cases_option}
 use Rattle.places.proofs.Objects.{view_in_lem, formed_at, view_formed, view_edges, view_group}
 use Rattle.places.proofs.Names.{not_backed, resizable_not_backing, named_if, edge_buffer}
 use Rattle.places.proofs.Builts.{at_place, build_length, build_keeps, build_append, built_at}
+use Rattle.effects.specs.Plans.{braced}
 
 -- past the last place both are 0
 pub depth_get_or : (es : List Expr) (i : ℕ) → get_or (lists.map depth es) i 0 ≡ depth (at_place es i)
@@ -412,10 +413,10 @@ module _ (h : Heap) (f : Formed h) (order : List ℕ) (ad : Adequate h order) wh
 
       go : (b : Bool) →
           lists.map stmt_depth (cond b (opening ∷ (lines_at h order order ++ (return (expr_of h order h.root) ∷ [])))
-          (lines_at h order order ++ (last (in_braces (expr_of h order h.root)) (expr_of h order h.root) ∷ [])))
+          (lines_at h order order ++ (last (braced (expr_of h order h.root)) (expr_of h order h.root) ∷ [])))
           ≡ cond b (0 ∷ (line_depths h order order ++ (value_depth h order h.root ∷ []))) (line_depths h order order ++ (value_depth h order h.root ∷ []))
       go true = ap (λ ns. 0 ∷ ns) (with_last (return (expr_of h order h.root)) refl)
-      go false = with_last (last (in_braces (expr_of h order h.root)) (expr_of h order h.root)) refl
+      go false = with_last (last (braced (expr_of h order h.root)) (expr_of h order h.root)) refl
 
   -- the test on the numbers alone
   pub not_deep_lem : (i : ℕ) (format : Format) → not_deep i (stmts h order format) ≡ none_deep i (stmt_depths h order format)

@@ -7,7 +7,7 @@ use Rattle.script.specs.Texts.{listing, all_zero}
 use Rattle.formed.specs.Formed.{Formed}
 use Rattle.planner.specs.Visits.{refs, refs_of, values_in, edges_of, edges, object_at, mem}
 use Rattle.planner.specs.Names.{kind_needs_name, turns, slot, has_name, ready_before, data_kind}
-use Rattle.planner.specs.Lates.{sets, puts, adds, fills, Late, bytes_kind, stack_value, late_properties, late_elements, late_members, late_causes, late_bytes, lates_by, lates}
+use Rattle.planner.specs.Lates.{sets, puts, adds, fills, Late, bytes_kind, late_properties, late_elements, late_members, late_causes, late_bytes, lates_by, lates}
 use Rattle.visits.proofs.Edges.{inlines_unnamed}
 use Rattle.visits.proofs.Lists.{mem_left, mem_right, mem_head}
 use Rattle.rebuilds.specs.Adequate.{Adequate}
@@ -15,6 +15,7 @@ use Rattle.rebuilds.specs.Makes.{task_refs}
 use Rattle.rebuilds.specs.Pending.{In}
 use Rattle.places.proofs.Ins.{in_nil, in_cons, in_parts}
 use Rattle.places.proofs.Names.{unnamed, child_ready}
+use Rattle.effects.specs.Plans.{stack_text}
 
 -- a follow-up of o that refers only to these objects
 abbrev pub From : ℕ → List ℕ → Late → Type 0
@@ -115,7 +116,7 @@ module _ (h : Heap) (order : List ℕ) where
       among (From o es) (all_zero bytes) (record { target = o; task = fills (bytes_kind (data_kind h order o) (listing (data_kind h order o))); ordered = false }) l [] []
       (refl, λ j m. absurd (both_ways false refl m)) in_nil in_nil i
 
-  stack_none : (stack : Option Text) → refs (stack_value stack) ≡ []
+  stack_none : (stack : Option Text) → refs (stack_text stack) ≡ []
   stack_none None = refl
   stack_none (Some s) = refl
 
@@ -139,10 +140,10 @@ module _ (h : Heap) (order : List ℕ) where
   by_kind o t (view k offset n tracking) ps l i = in_nil i
   by_kind o t (error n message stack) ps l i =
       ⊎_elim (λ (a : In l (late_causes h order o t ps)). causes_from o t ps l a)
-      (λ (a : In l (record { target = o; task = sets (name (codes "stack")) (stack_value stack); ordered = false } ∷ [])).
-      among (From o (edges_of ps)) false (record { target = o; task = sets (name (codes "stack")) (stack_value stack); ordered = false }) l [] []
+      (λ (a : In l (record { target = o; task = sets (name (codes "stack")) (stack_text stack); ordered = false } ∷ [])).
+      among (From o (edges_of ps)) false (record { target = o; task = sets (name (codes "stack")) (stack_text stack); ordered = false }) l [] []
       (refl, λ j m. absurd (both_ways false refl (ap (mem j) (sym (stack_none stack)) ∙ m))) in_nil in_nil a)
-      (in_parts (late_causes h order o t ps) (record { target = o; task = sets (name (codes "stack")) (stack_value stack); ordered = false } ∷ []) i)
+      (in_parts (late_causes h order o t ps) (record { target = o; task = sets (name (codes "stack")) (stack_text stack); ordered = false } ∷ []) i)
 
   pub late_from : (o : ℕ) (l : Late) → In l (lates h order o) → From o (edges h o) l
   late_from o l i = by_kind o (slot h order o) (object_at h o).kind (object_at h o).parts l i

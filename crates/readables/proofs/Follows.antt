@@ -12,7 +12,7 @@ use Rattle.script.specs.Texts.{listing, all_zero}
 use Rattle.planner.specs.Visits.{object_at}
 use Rattle.planner.specs.Names.{buffer_in, slot, ready_before, data_kind}
 use Rattle.planner.specs.Builds.{built}
-use Rattle.planner.specs.Lates.{Task, sets, puts, adds, fills, Late, bytes_kind, stack_value, ready, late_properties, late_elements, late_members, late_causes, late_bytes, lates_by, lates, own_due, due}
+use Rattle.planner.specs.Lates.{Task, sets, puts, adds, fills, Late, bytes_kind, ready, late_properties, late_elements, late_members, late_causes, late_bytes, lates_by, lates, own_due, due}
 use Rattle.planner.specs.Lines.{expr_of, bytes_of, late_stmt}
 use Rattle.rebuilds.specs.Adequate.{Adequate}
 use Rattle.effects.specs.Readable.{Data, IsNumbers, KeyReadable, ExprReadable, StmtReadable}
@@ -22,6 +22,7 @@ use Rattle.readables.proofs.Spelled.{HeapSpelled}
 use Rattle.readables.proofs.Writes.{formed_at, parts_at}
 use Rattle.readables.proofs.Bytes.{bytes_formed, octets_data, numbers_listed, listed_data, kind_data}
 use Rattle.readables.proofs.Exprs.{value_readable, built_readable}
+use Rattle.effects.specs.Plans.{stack_text}
 
 cause_units : Units (codes "cause")
 cause_units = (omega arith, (omega arith, (omega arith, (omega arith, (omega arith, tt)))))
@@ -106,7 +107,7 @@ module _ (numeral : ℕ → Option (List ℕ)) (h : Heap) (order : List ℕ) whe
       cond_both (ready h order t v) (late_causes h order o t ps)
       (record { target = o; task = sets (name (codes "cause")) v; ordered = false } ∷ late_causes h order o t ps) LatesWritable (λ e. ih) (λ e. ((cause_units, w.0), ih))
 
-  stack_writable : (stack : Option Text) → MaybeUnits stack → Writable numeral (stack_value stack)
+  stack_writable : (stack : Option Text) → MaybeUnits stack → Writable numeral (stack_text stack)
   stack_writable None u = tt
   stack_writable (Some s) u = u
 
@@ -137,7 +138,7 @@ module _ (numeral : ℕ → Option (List ℕ)) (h : Heap) (order : List ℕ) whe
     kind_late o t (heaps.buffer bytes maximum) ps e g w = bytes_late o bytes maximum e
     kind_late o t (heaps.view k offset n tracking) ps e g w = tt
     kind_late o t (heaps.error n message stack) ps e g w =
-        All-append LateWritable (late_causes h order o t ps) (record { target = o; task = sets (name (codes "stack")) (stack_value stack); ordered = false } ∷ [])
+        All-append LateWritable (late_causes h order o t ps) (record { target = o; task = sets (name (codes "stack")) (stack_text stack); ordered = false } ∷ [])
         (causes_late o t ps w) ((stack_units, stack_writable stack g.1), tt)
 
     pub lates_writable : HeapSpelled numeral h → (o : ℕ) → LatesWritable (lates h order o)

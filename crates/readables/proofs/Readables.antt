@@ -9,7 +9,7 @@ use Rattle.script.specs.Syntax.{circular, form, Stmt, opening, const, last, retu
 use Rattle.planner.specs.Names.{pos}
 use Rattle.planner.specs.Builds.{built}
 use Rattle.planner.specs.Lates.{Late, lates, due}
-use Rattle.planner.specs.Lines.{Format, in_braces, target, has_line, expr_of, late_stmt, all_due, due_at, lines_at, body, wrapped, stmts, spelled_all}
+use Rattle.planner.specs.Lines.{Format, target, has_line, expr_of, late_stmt, all_due, due_at, lines_at, body, wrapped, stmts, spelled_all}
 use Rattle.rebuilds.specs.Adequate.{Adequate}
 use Rattle.effects.specs.Readable.{ExprReadable, StmtReadable}
 use Rattle.readables.proofs.Places.{pos_small}
@@ -17,6 +17,7 @@ use Rattle.readables.proofs.Spelled.{HeapSpelled, heap_spelled}
 use Rattle.readables.proofs.Writes.{root_writable}
 use Rattle.readables.proofs.Exprs.{done_readable, built_readable}
 use Rattle.readables.proofs.Follows.{DueWritable, lates_writable, due_writable, expr_readable, late_readable}
+use Rattle.effects.specs.Plans.{braced}
 
 module _ (h : Heap) (numeral : ℕ → Option (List ℕ)) (order : List ℕ) (f : Formed h) (a : Adequate h order) (s : HeapSpelled numeral h) where
   abbrev Dues : List (ℕ × Late) → Type 0
@@ -60,9 +61,9 @@ module _ (h : Heap) (numeral : ℕ → Option (List ℕ)) (order : List ℕ) (f 
   all_stmts : (format : Format) → Stmts (stmts h order format)
   all_stmts format =
       let root = expr_of h order h.root in
-      cond_both (wrapped h order format) (opening ∷ (body h order ++ (return root ∷ []))) (body h order ++ (last (in_braces root) root ∷ [])) Stmts
+      cond_both (wrapped h order format) (opening ∷ (body h order ++ (return root ∷ []))) (body h order ++ (last (braced root) root ∷ [])) Stmts
       (λ e. (tt, All-push (StmtReadable numeral) (body h order) (return root) (lines_at_lem order) root_readable))
-      (λ e. All-push (StmtReadable numeral) (body h order) (last (in_braces root) root) (lines_at_lem order) (root_readable, λ b. b))
+      (λ e. All-push (StmtReadable numeral) (body h order) (last (braced root) root) (lines_at_lem order) (root_readable, λ b. b))
 
 -- whatever the format
 pub readables : (h : Heap) (numeral : ℕ → Option (List ℕ)) (order : List ℕ) (f : Format) → Formed h → Adequate h order → spelled_all numeral h ≡ Ok tt → All (StmtReadable numeral) (stmts h order f)

@@ -6,7 +6,6 @@ use Rattle.dump.specs.Heaps.{Value, Key}
 use Rattle.numeral.specs.Numerals.{finite}
 use Rattle.script.specs.Syntax as syntax
 use Rattle.script.specs.Syntax.{Form, named, buffer_of_named, circular, new_boolean, new_number, new_bigint, new_string, new_regexp, new_date, new_array, empty_map_form, empty_set_form, buffer_form, new_resizable, data_buffer, new_typed, typed_part, braces, brackets, map_group, set_group, error_group, view_group, Expr, value, form, group}
-use Rattle.planner.specs.Lines.{in_braces}
 use Rattle.evaluator.specs.Options.{and_then, when, or_else}
 use Rattle.evaluator.specs.Tokens.{word, mark}
 use Rattle.evaluator.specs.Trees.{leaf, Trees, nil, cons}
@@ -17,6 +16,7 @@ use Rattle.leaves.proofs.Numbers.{name_of_lem}
 use Rattle.reading.specs.Trees.{append_t, one, name_tree, new_trees, member, access_trees, numeral_trees, double_trees, value_trees, form_trees, expr_trees}
 use Rattle.reading.specs.Steps.{has_mark}
 use Rattle.reading.specs.Statements.{semicolon, const_trees, assign_trees, last_trees}
+use Rattle.effects.specs.Plans.{braced}
 
 -- a semicolon at the end
 ended_is : (ts : Trees) → ended (append_t ts (one semicolon)) ≡ Some ts
@@ -153,7 +153,7 @@ module _ (numeral : ℕ → Option (List ℕ)) where
     expr_free (group (view_group k o n) is) = refl
 
   -- only braces begin with a block
-  not_block : (e : Expr) → in_braces e ≡ false → is_block (expr_trees numeral e) ≡ false
+  not_block : (e : Expr) → braced e ≡ false → is_block (expr_trees numeral e) ≡ false
   not_block (value v) h = by_value v
     where
       double : (f : Bool) (o : Option (List ℕ)) (a b : Bool)
@@ -203,9 +203,9 @@ module _ (numeral : ℕ → Option (List ℕ)) where
   not_block (group (view_group k o n) is) h = refl
 
   -- the last line: braces stand in brackets
-  pub last_command : (b : Bool) (e : Expr) → (in_braces e ≡ true → b ≡ true) → command (last_trees numeral b e) ≡ Some (gives (last_trees numeral b e))
+  pub last_command : (b : Bool) (e : Expr) → (braced e ≡ true → b ≡ true) → command (last_trees numeral b e) ≡ Some (gives (last_trees numeral b e))
   last_command true e h = refl
-  last_command false e h = gives_command (expr_trees numeral e) (expr_free 61 refl refl e) (expr_free 59 refl refl e) (not_block e (go (in_braces e) h))
+  last_command false e h = gives_command (expr_trees numeral e) (expr_free 61 refl refl e) (expr_free 59 refl refl e) (not_block e (go (braced e) h))
     where
       go : (b : Bool) → (b ≡ true → false ≡ true) → b ≡ false
       go true f = sym (f refl)

@@ -5,10 +5,11 @@ use Rattle.dump.specs.declared.kinds.ErrorName.{ErrorName}
 use Rattle.dump.specs.Heaps as heaps
 use Rattle.dump.specs.Heaps.{Text, Value, Key, index, name, Kind, boolean_object, number_object, bigint_object, string_object, plain, sparse, dense, map, set, Part, property, element, entry, member, below, cause, Object, Heap}
 use Rattle.planner.specs.Visits.{object_at}
-use Rattle.planner.specs.Lates.{Task, sets, puts, adds, fills, Late, stack_value, lates, due}
+use Rattle.planner.specs.Lates.{Task, sets, puts, adds, fills, Late, lates, due}
 use Rattle.evaluator.specs.Stores.{Val, undefined, Shape, ordinary, array, mapping, setting, buffer, error, Slot, keyed, Obj}
 use Rattle.evaluator.specs.Makes.{zeros}
 use Rattle.evaluator.specs.Isomorphic.{Pairing, Alike, AlikeKind, AlikeParts, key_text}
+use Rattle.effects.specs.Plans.{stack_text}
 
 pub data In {A : Type 0} (a : A) : List A → Type 0 where
   here : {xs : List A} → In a (a ∷ xs)
@@ -74,7 +75,7 @@ pub record Bytes (o : ℕ) (ls : List Late) (bytes : List ℕ) (maximum : Option
 pub record Failure (own : Pairing) (o : ℕ) (ls : List Late) (e : ErrorName) (message stack : Option Text) (ps : List Part) (sh : Shape) (ss : List Slot) : Type 0 where
   pub trace : Option Text
   pub shape : sh ≡ error e message trace
-  pub stacked : (trace ≡ stack) ⊎ ((trace ≡ None) × Waits o ls (sets (name (codes "stack")) (stack_value stack)))
+  pub stacked : (trace ≡ stack) ⊎ ((trace ≡ None) × Waits o ls (sets (name (codes "stack")) (stack_text stack)))
   pub caused : AlikeParts own 0 ps ss ⊎ ((ss ≡ []) × ((v : Value) × (ps ≡ cause v ∷ []) × Waits o ls (sets (name (codes "cause")) v)))
 
 -- The object o with this kind and these parts, of which these follow-ups are to come.

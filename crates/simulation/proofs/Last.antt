@@ -7,7 +7,7 @@ use Rattle.script.specs.Syntax.{Stmt, opening, last, return}
 use Rattle.planner.specs.Visits.{refs, mem}
 use Rattle.planner.specs.Names.{count, pos, slot, has_name}
 use Rattle.planner.specs.Lates.{Late, lates, due}
-use Rattle.planner.specs.Lines.{Format, expr_of, lines_at, body, wrapped, in_braces, stmts}
+use Rattle.planner.specs.Lines.{Format, expr_of, lines_at, body, wrapped, stmts}
 use Rattle.evaluator.specs.Options.{and_then}
 use Rattle.evaluator.specs.Stores.{Val, State, start}
 use Rattle.evaluator.specs.Commands.{Ran, ran}
@@ -34,6 +34,7 @@ use Rattle.simulation.proofs.Inside.{counted, inside_within, within_unnamed}
 use Rattle.simulation.proofs.Exprs.{names_good, places_good, self_good, over_good}
 use Rattle.simulation.proofs.Follows.{lates_run}
 use Rattle.simulation.proofs.Lines.{ExprsGood, Sim, all_lines}
+use Rattle.effects.specs.Plans.{braced}
 
 from_none : (t : ℕ) (ds : List (ℕ × Late)) → ((d : ℕ) (l : Late) → In (d, l) ds → d < t) → due_from t ds ≡ []
 from_none t [] n = refl
@@ -112,7 +113,7 @@ module _ (h : Heap) (f : Formed h) (order : List ℕ) (ad : Adequate h order) wh
       let r = rebuilt a.0 a.1 a.3 (root_made a.0 a.1 a.3) in
       go (wrapped h order fm) a.1 a.2 r
     where
-      go : (w : Bool) (s : State) → Leads (body h order) start s → Rebuilt s → Whole (cond w (opening ∷ (body h order ++ (return (expr_of h order h.root) ∷ []))) (body h order ++ (last (in_braces (expr_of h order h.root)) (expr_of h order h.root) ∷ [])))
+      go : (w : Bool) (s : State) → Leads (body h order) start s → Rebuilt s → Whole (cond w (opening ∷ (body h order ++ (return (expr_of h order h.root) ∷ []))) (body h order ++ (last (braced (expr_of h order h.root)) (expr_of h order h.root) ∷ [])))
       go true s l r =
           record {
             ran = record { state = r.state; result = Some r.val };
@@ -126,7 +127,7 @@ module _ (h : Heap) (f : Formed h) (order : List ℕ) (ad : Adequate h order) wh
           record {
             ran = record { state = r.state; result = Some r.val };
             val = r.val;
-            runs = stmts_append (body h order) (last (in_braces (expr_of h order h.root)) (expr_of h order h.root) ∷ []) (going start) (going s) l
+            runs = stmts_append (body h order) (last (braced (expr_of h order h.root)) (expr_of h order h.root) ∷ []) (going start) (going s) l
                 ∙ ap (λ z. and_then (and_then z (λ m. ran m.state (Some m.val))) (stmts_done [])) r.runs;
             result = refl;
             same = r.same;

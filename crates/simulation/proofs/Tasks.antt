@@ -7,9 +7,10 @@ use Rattle.dump.specs.Heaps.{Text, Value, hole, Heap, Kind, boolean_object, numb
 use Rattle.formed.specs.Formed.{Formed, ValueFormed, KindFormed, MaybeUnits, PartsFormed, PropertyFormed, ElementFormed, EntryFormed, MemberFormed, CauseFormed}
 use Rattle.planner.specs.Visits.{object_at}
 use Rattle.planner.specs.Names.{ready_before, slot}
-use Rattle.planner.specs.Lates.{Task, sets, puts, adds, fills, Late, stack_value, late_properties, late_elements, late_members, late_causes, late_bytes, lates_by, lates}
+use Rattle.planner.specs.Lates.{Task, sets, puts, adds, fills, Late, late_properties, late_elements, late_members, late_causes, late_bytes, lates_by, lates}
 use Rattle.rebuilds.specs.Pending.{In, here, there}
 use Rattle.places.proofs.Objects.{formed_at}
+use Rattle.effects.specs.Plans.{stack_text}
 
 abbrev pub TaskFormed : ℕ → Task → Type 0
 TaskFormed n (sets k v) = ValueFormed n v
@@ -105,7 +106,7 @@ module _ (h : Heap) (order : List ℕ) (n : ℕ) (o t : ℕ) where
   bytes_formed bytes None = tt
   bytes_formed bytes (Some m) = choice n (Rattle.script.specs.Texts.all_zero bytes) [] _ (λ e. tt) (λ e. (tt, tt))
 
-  stack_formed : (stack : Option Text) → MaybeUnits stack → ValueFormed n (stack_value stack)
+  stack_formed : (stack : Option Text) → MaybeUnits stack → ValueFormed n (stack_text stack)
   stack_formed None u = tt
   stack_formed (Some s) u = u
 

@@ -58,7 +58,7 @@ fn after_full(rt: HostRuntime) {
     assert_eq!(rt; page.put(100), Err(SinkFault::Full));
     assert_eq!(rt; put_all(&mut page, b"de"), Err(SinkFault::Full));
     assert_eq!(rt; put_all(&mut page, b""), Ok(()));
-    assert_eq!(rt; page.written(), b"ab");
+    assert_eq!(rt; page.written(), b"ab".as_slice());
     let mut counter = Counter::new(1);
     assert_eq!(rt; counter.put(97), Ok(()));
     assert_eq!(rt; counter.put(98), Err(SinkFault::Full));
@@ -85,7 +85,7 @@ fn lent_page(rt: HostRuntime) {
     let mut page = Page::new(&mut memory);
     assert_eq!(rt; give(&mut page, b"abc"), Ok(()));
     assert_eq!(rt; give(&mut page, b"de"), Err(SinkFault::Full));
-    assert_eq!(rt; page.written(), b"abcd");
+    assert_eq!(rt; page.written(), b"abcd".as_slice());
 }
 
 #[test]
@@ -97,7 +97,7 @@ fn tallies(rt: HostRuntime) {
     assert_eq!(rt; tally.count(), 3);
     assert_eq!(rt; put_all(&mut tally, b"de"), Err(SinkFault::Full));
     assert_eq!(rt; tally.count(), 4);
-    assert_eq!(rt; page.written(), b"abcd");
+    assert_eq!(rt; page.written(), b"abcd".as_slice());
 }
 
 #[test]
@@ -123,5 +123,5 @@ fn repeats(rt: HostRuntime) {
     assert_eq!(rt; repeat(&mut page, b"ab", 0), Ok(()));
     assert_eq!(rt; repeat(&mut page, b"ab", 2), Ok(()));
     assert_eq!(rt; repeat(&mut page, b"cd", 2), Err(SinkFault::Full));
-    assert_eq!(rt; page.written(), b"ababc");
+    assert_eq!(rt; page.written(), b"ababc".as_slice());
 }
