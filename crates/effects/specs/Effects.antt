@@ -1,5 +1,5 @@
 -- What an expression makes and a statement does, said of the syntax: the step between a script's text and the heap that it rebuilds.
-use Rattle.std.specs.Prelude.{ℕ, zero, suc, ◌+◌, ◌-◌, ◌*◌, ◌/◌, ◌^◌, Bool, true, false, cond, not, ◌&&◌, List, [], ◌∷◌, ◌++◌, length, ℤ, pos, negsuc, is_some, Some, None, codes, Option, ◌==◌, nat_le}
+use Rattle.std.specs.Prelude.{ℕ, suc, ◌+◌, ◌-◌, ◌*◌, ◌/◌, ◌^◌, Bool, true, false, cond, not, ◌&&◌, List, [], ◌∷◌, ◌++◌, length, pos, negsuc, is_some, Some, None, codes, Option, ◌==◌, nat_le}
 use Rattle.dump.specs.declared.kinds.ViewKind.{ViewKind}
 use Rattle.dump.specs.declared.kinds.ViewKind.TheVariants.{Uint8Array}
 use Rattle.dump.specs.declared.kinds.ErrorName.{ErrorName}

@@ -1,5 +1,5 @@
 -- What a statement must keep to for its text to be read back: numbers in range, numerals for its doubles, texts of units, bytes in whole elements, no hole in a Set.
-use Rattle.std.specs.Prelude.{◌≡◌, ℕ, ◌%◌, ◌<◌, ◌≤◌, Bool, true, false, List, [], ◌∷◌, ◌++◌, length, Some, None, Option}
+use Rattle.std.specs.Prelude.{◌≡◌, ℕ, ◌%◌, ◌<◌, ◌≤◌, true, List, length, Some, None, Option}
 use Rattle.std.specs.List.{AllByRecursion}
 use Rattle.dump.specs.declared.kinds.ViewKind.{ViewKind}
 use Rattle.dump.specs.Heaps as heaps

@@ -1,5 +1,5 @@
 -- The tokens of a text that is given as items: what the evaluator's lexer must find in its bytes.
-use Rattle.std.specs.Prelude.{ℕ, Bool, true, false, cond, List, [], ◌∷◌, ◌++◌, Some, None, codes, Option, ◌==◌}
+use Rattle.std.specs.Prelude.{ℕ, Bool, cond, List, [], ◌∷◌, ◌++◌, Some, None, codes, Option, ◌==◌}
 use Rattle.numeral.specs.Numerals.{finite}
 use Rattle.script.specs.Items as items
 use Rattle.script.specs.Items.{Item, signed_decimal, hex_digits}

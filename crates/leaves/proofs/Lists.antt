@@ -1,5 +1,5 @@
 -- The elements that bytes are listed as give the bytes back, for every width.
-use Rattle.std.proofs.Common.{◌≡◌, ℕ, zero, suc, ◌+◌, ◌-◌, ◌*◌, ◌/◌, ◌%◌, ◌^◌, ◌<◌, ◌≤◌, min, Bool, true, false, ◌&&◌, eqb, leb, List, [], ◌∷◌, ◌++◌, length, pos, negsuc, Some, None, Option, sym, refl, ap, ◌∙◌, subst, append_assoc, mod-eq_of_lt, suc-mul, arith, length-append, pow-add, eq-eqb, eqb-true}
+use Rattle.std.proofs.Common.{◌≡◌, ℕ, suc, ◌+◌, ◌-◌, ◌*◌, ◌/◌, ◌%◌, ◌^◌, ◌<◌, ◌≤◌, min, Bool, true, false, ◌&&◌, eqb, leb, List, [], ◌∷◌, ◌++◌, length, pos, negsuc, Some, None, Option, sym, refl, ap, ◌∙◌, subst, append_assoc, mod-eq_of_lt, suc-mul, arith, length-append, pow-add, eq-eqb, eqb-true}
 use native.Mathlib.Nat.{mod-one, add-mod_left}
 use borrow.Author.Tests.{eqb-false}
 use Rattle.std.specs.List.{AllByRecursion as All}

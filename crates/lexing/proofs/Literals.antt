@@ -8,7 +8,7 @@ use Rattle.std.proofs.lemmas.Bool.Decides.{nat_tests}
 use Rattle.dump.specs.Heaps.{Text}
 use Rattle.formed.specs.Formed.{Units}
 use Rattle.script.specs.Literals.{is_first, is_second, join_pair, escaped, read_units, literal}
-use Rattle.evaluator.specs.Tokens.{Token, string, idle, in_string, escape, escape_u, escape_number, hex_value, units_of_point, go, lex}
+use Rattle.evaluator.specs.Tokens.{Token, string, idle, in_string, escape, escape_u, escape_number, hex_value, units_of_point, lex}
 use Rattle.lexing.proofs.Utf8.{Encodes, encodes_none, encodes_both, encodes_low, encodes_ascii, encodes_character}
 use Rattle.lexing.proofs.Lexes.{silent, speaks}
 use Rattle.lexing.proofs.Numbers.{all_digits}

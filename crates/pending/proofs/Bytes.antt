@@ -1,24 +1,24 @@
 -- A follow-up that fills a resizable buffer runs, and the buffer has its bytes.
-use Rattle.std.proofs.Common.{◌≡◌, ℕ, zero, suc, ◌%◌, ◌<◌, ◌≤◌, Bool, true, false, cond, ◌&&◌, eqb, leb, ◌⊎◌, List, [], ◌∷◌, ◌++◌, length, drop, Some, None, Option, sym, refl, ap, ◌∙◌, subst, inl, inr, ⊎_elim, append_assoc, append-nil, arith}
-use Rattle.std.proofs.lemmas.Bool.{and_from, le-leb, false≢true}
+use Rattle.std.proofs.Common.{◌≡◌, ℕ, zero, suc, ◌%◌, ◌<◌, Bool, true, false, eqb, leb, List, [], ◌∷◌, ◌++◌, length, drop, Some, None, Option, sym, refl, ap, ◌∙◌, subst, inl, ⊎_elim, append_assoc, append-nil, arith}
+use Rattle.std.proofs.lemmas.Bool.{and_from, le-leb}
 use Rattle.dump.specs.declared.kinds.ViewKind.{ViewKind}
 use Rattle.dump.specs.declared.kinds.ViewKind.TheVariants.{Int8Array, Uint8Array, Uint8ClampedArray, Int16Array, Uint16Array, Int32Array, Uint32Array, Float32Array, Float64Array, BigInt64Array, BigUint64Array, DataView}
 use Rattle.dump.specs.Heaps as heaps
 use Rattle.dump.specs.Heaps.{Value, Key, Kind, boolean_object, number_object, bigint_object, string_object, plain, sparse, dense, map, set, Part, Heap}
 use Rattle.dump.specs.Kinds.{width}
-use Rattle.formed.specs.Formed.{PartsFormed, ObjectFormed, Formed}
-use Rattle.script.specs.Texts.{Listing, numbers, floats, listing, all_zero}
+use Rattle.formed.specs.Formed.{PartsFormed, Formed}
+use Rattle.script.specs.Texts.{numbers, listing}
 use Rattle.planner.specs.Visits.{object_at}
 use Rattle.planner.specs.Names.{buffer_in, slot, data_kind}
-use Rattle.planner.specs.Lates.{Task, sets, puts, adds, fills, Late, bytes_kind, lates_by, lates}
+use Rattle.planner.specs.Lates.{sets, puts, adds, fills, Late, bytes_kind, lates_by, lates}
 use Rattle.planner.specs.Lines.{bytes_of}
 use Rattle.evaluator.specs.Options.{nth, and_then, when}
-use Rattle.evaluator.specs.Stores.{Val, ref, Shape, buffer, view, Slot, single, Obj, State, Made, make, change}
+use Rattle.evaluator.specs.Stores.{ref, Shape, buffer, view, Slot, single, Obj, State, Made, make, change}
 use Rattle.evaluator.specs.Makes as makes
 use Rattle.evaluator.specs.Makes.{zeros, overwritten, width_of, BufferHeld, buffer_at, place_view, view_on}
 use Rattle.evaluator.specs.Isomorphic.{Pairing, AlikeParts}
 use Rattle.effects.specs.Effects.{grown, listed, filled, filled_by}
-use Rattle.rebuilds.specs.Pending.{In, ordered_tasks, Bytes, Pends, Pending}
+use Rattle.rebuilds.specs.Pending.{In, Bytes, Pends, Pending}
 use Rattle.pending.proofs.Lates.{not_task, task_of}
 use Rattle.pending.proofs.Done.{object_formed}
 

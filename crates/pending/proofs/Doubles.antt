@@ -1,14 +1,12 @@
 -- The double of a whole number by its bits, below zero too; all NaN are one.
-use Rattle.std.proofs.Common.{◌≡◌, ℕ, zero, suc, ◌+◌, ◌-◌, ◌*◌, ◌/◌, ◌%◌, ◌^◌, ◌<◌, ◌≤◌, Bool, true, false, cond, not, ◌&&◌, ◌||◌, T, eqb, ltb, leb, ◌⊎◌, ℤ, pos, negsuc, sym, refl, ap, ◌∙◌, subst, inl, inr, ⊎_elim, arith}
+use Rattle.std.proofs.Common.{◌≡◌, ℕ, zero, suc, ◌+◌, ◌-◌, ◌*◌, ◌/◌, ◌%◌, ◌^◌, Bool, true, false, cond, not, ◌&&◌, eqb, ltb, ℤ, pos, negsuc, sym, refl, ap, ◌∙◌, ⊎_elim, arith}
 use Prim.Native.Nat.{compare}
 use lib.Ieee as Ieee
 use lib.Ieee.{Float, nan, inf, fin, binary64, prec, low, emax, odd, units, round, size, nearest, of_int, of_bits, to_bits, nan_bits, top, hid, ones, up, down}
 use lib.Ieee.Bits.{of_bits-to_bits, nan_bits_is}
 use lib.Ieee.Fits.{of_int-fits}
-use Rattle.std.proofs.lemmas.Bool.{true≢false, false≢true, and_from, eq-eqb, and_parts, or_cases, eqb-true, cases_Bool}
-use Rattle.std.proofs.lemmas.Bool.Decides.{nat_tests}
+use Rattle.std.proofs.lemmas.Bool.{false≢true, and_from, eq-eqb, and_parts, or_cases, eqb-true}
 use Rattle.numeral.specs.Numerals.{finite}
-use Rattle.formed.specs.Formed.{WholeFits}
 use Rattle.evaluator.specs.Isomorphic.{is_nan, same_value, whole_double}
 
 -- the sign is the highest bit

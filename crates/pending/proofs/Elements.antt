@@ -1,8 +1,7 @@
 -- An element set by a follow-up: its index is there already.
-use Rattle.std.proofs.Common.{◌≡◌, ℕ, zero, suc, ◌+◌, ◌<◌, ◌≤◌, Bool, true, false, cond, ◌||◌, ◌⊎◌, List, [], ◌∷◌, ◌++◌, length, is_some, decimal, sym, refl, ap, ◌∙◌, subst, inl, inr, ⊎_elim, arith}
-use Rattle.std.proofs.lemmas.Bool.{cases_eq, or_left, or_right, or_from, both_ways, cond-true, cond-false}
-use Rattle.dump.specs.Heaps as heaps
-use Rattle.dump.specs.Heaps.{Text, Value, Key, index, Part, element}
+use Rattle.std.proofs.Common.{◌≡◌, ℕ, suc, ◌+◌, ◌<◌, ◌≤◌, true, false, cond, List, ◌∷◌, length, is_some, decimal, sym, refl, ap, ◌∙◌, subst, ⊎_elim, arith}
+use Rattle.std.proofs.lemmas.Bool.{cases_eq, or_left, or_right, or_from, cond-true, cond-false}
+use Rattle.dump.specs.Heaps.{Text, Value, index, Part, element}
 use Rattle.numeral.specs.Digits.{index_of}
 use Rattle.numeral.specs.Words.{same_units}
 use Rattle.planner.specs.Lates.{sets, Late}

@@ -1,7 +1,6 @@
 -- Parts that are added one by one: those at the front are there, and the next follow-up in order adds the next part.
 use Rattle.std.proofs.Common.{◌≡◌, ℕ, suc, Bool, true, false, cond, List, [], ◌∷◌, ◌++◌, MatchBool, sym, refl, ap, ◌∙◌, subst, append_assoc, append-nil, arith}
 use Rattle.std.specs.List.{AllByRecursion as All}
-use Rattle.dump.specs.Heaps as heaps
 use Rattle.dump.specs.Heaps.{Part, property, element, entry, member, below, cause}
 use Rattle.formed.specs.Formed.{PropertyFormed, EntryFormed, MemberFormed}
 use Rattle.planner.specs.Lates.{Task, sets, puts, adds, Late}

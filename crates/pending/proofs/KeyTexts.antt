@@ -1,7 +1,7 @@
 -- Keys by their texts: keys that are apart have other texts, and an index is read back.
-use Rattle.std.proofs.Common.{◌≡◌, ℕ, zero, suc, ◌^◌, ◌<◌, ◌≤◌, Bool, true, false, cond, ◌&&◌, leb, ◌⊎◌, List, [], ◌∷◌, is_some, Some, None, decimal, Option, sym, refl, ap, ◌∙◌, subst, inl, inr, ⊎_elim, arith}
+use Rattle.std.proofs.Common.{◌≡◌, ℕ, ◌<◌, ◌≤◌, Bool, true, false, cond, ◌&&◌, leb, List, is_some, Some, None, decimal, sym, ap, ◌∙◌, ⊎_elim, arith}
 use Rattle.std.proofs.lemmas.Fmt.{decimal_injective}
-use Rattle.std.proofs.lemmas.Bool.{cases_Bool, le-leb, true≢false, false≢true}
+use Rattle.std.proofs.lemmas.Bool.{cases_Bool, le-leb, false≢true}
 use Rattle.dump.specs.Heaps.{Text, Key, index, name}
 use Rattle.numeral.specs.Digits.{are_digits, value_from, whole_digits, whole_within, index_of}
 use Rattle.numeral.specs.Words.{same_units}

@@ -1,17 +1,16 @@
 -- Values of a heap that differ by SameValueZero differ on the evaluator, and a Map keeps its keys as they are.
-use Rattle.std.proofs.Common.{◌≡◌, ℕ, zero, suc, ◌+◌, ◌^◌, ◌<◌, ◌≤◌, Bool, true, false, cond, not, ◌&&◌, ◌||◌, eqb, ◌⊎◌, List, [], ◌∷◌, ℤ, pos, negsuc, Some, None, Option, sym, refl, ap, ◌∙◌, subst, inl, inr, ⊎_elim, arith}
-use lib.Ieee.{Float, binary64, of_bits, to_unsigned}
-use Rattle.std.proofs.lemmas.Bool.{cases_Bool, cases_eq, or_cases, and_parts, eqb-true, eqb-false, ne_eqb, both_ways, true≢false, false≢true, cond-false}
+use Rattle.std.proofs.Common.{◌≡◌, ℕ, suc, Bool, true, false, ◌&&◌, eqb, ℤ, pos, negsuc, Some, None, sym, refl, ap, ◌∙◌, subst, inl, inr, ⊎_elim, arith}
+use lib.Ieee.{binary64, of_bits, to_unsigned}
+use Rattle.std.proofs.lemmas.Bool.{cases_Bool, or_cases, and_parts, eqb-true, ne_eqb, false≢true, cond-false}
 use Rattle.dump.specs.Heaps as heaps
 use Rattle.dump.specs.Heaps.{Text, Value}
-use Rattle.numeral.specs.Numerals.{is_big_int, whole_bits}
-use Rattle.numeral.specs.Words.{same_units}
+use Rattle.numeral.specs.Numerals.{is_big_int}
 use Rattle.numeral.proofs.Laws.{same_units_lem}
 use Rattle.formed.specs.Formed.{ValueFormed, WholeFits, number_in, SameValueZero, Kept}
 use Rattle.speller.proofs.Floats.{bits_of, bits_below, cut_back}
 use Rattle.evaluator.specs.Options.{nth}
-use Rattle.evaluator.specs.Stores.{Val, undefined, null, boolean, number, big, text, ref, same_zero, same_integer, same_boolean, same_double, plus_zero}
-use Rattle.evaluator.specs.Isomorphic.{Pairing, Alike, AlikeNumber, big_value, same_value, is_nan, whole_double}
+use Rattle.evaluator.specs.Stores.{Val, undefined, null, boolean, number, big, text, ref, same_zero, same_integer, same_boolean, plus_zero}
+use Rattle.evaluator.specs.Isomorphic.{Pairing, Alike, big_value, same_value, is_nan, whole_double}
 use Rattle.pending.proofs.Doubles.{whole_double_lem, same_double_lem}
 use Rattle.pending.proofs.BigInts.{same_big}
 

@@ -1,17 +1,16 @@
 -- A follow-up that adds an entry to a Map or a member to a Set runs, and its object lacks it no more.
-use Rattle.std.proofs.Common.{◌≡◌, ℕ, zero, suc, ◌<◌, ◌≤◌, Bool, true, false, cond, ◌||◌, ◌⊎◌, List, [], ◌∷◌, ◌++◌, length, sym, refl, ap, ◌∙◌, subst, inl, inr, ⊎_elim, arith}
+use Rattle.std.proofs.Common.{◌≡◌, ℕ, ◌<◌, true, false, List, [], ◌∷◌, ◌++◌, length, sym, refl, ap, ◌∙◌, subst, arith}
 use Rattle.std.specs.List.{AllByRecursion as All}
 use Rattle.std.proofs.ByRecursion.{All-weaker}
-use Rattle.std.proofs.lemmas.Bool.{or_from, false≢true, cond-false}
+use Rattle.std.proofs.lemmas.Bool.{or_from, cond-false}
 use Rattle.dump.specs.Heaps as heaps
 use Rattle.dump.specs.Heaps.{Value, Kind, boolean_object, number_object, bigint_object, string_object, plain, sparse, dense, map, set, Part, property, element, entry, member, below, cause, Heap}
-use Rattle.formed.specs.Formed.{Pairwise, ValueFormed, Kept, SameValueZero, EntryFormed, MemberFormed, EntryApart, MemberApart, PartsFormed, ObjectFormed, Formed}
+use Rattle.formed.specs.Formed.{Pairwise, ValueFormed, Kept, EntryFormed, MemberFormed, EntryApart, MemberApart, PartsFormed, Formed}
 use Rattle.formed.proofs.SameValues.{same_value_sym}
 use Rattle.planner.specs.Visits.{object_at}
 use Rattle.planner.specs.Names.{slot}
 use Rattle.planner.specs.Lates.{Task, sets, puts, adds, fills, Late, lates_by, lates}
-use Rattle.evaluator.specs.Options.{and_then}
-use Rattle.evaluator.specs.Stores.{Val, ref, Shape, mapping, setting, Slot, pair, single, Obj, State, made, change, same_zero, plus_zero, has_member, set_member, map_set, set_add}
+use Rattle.evaluator.specs.Stores.{Val, ref, Shape, mapping, setting, Slot, pair, single, Obj, State, made, change, same_zero, has_member, set_member, map_set, set_add}
 use Rattle.evaluator.specs.Makes.{set_pair, add_one}
 use Rattle.evaluator.specs.Isomorphic.{Pairing, Alike, AlikeParts}
 use Rattle.rebuilds.specs.Pending.{In, ordered_tasks, part_tasks, Front, Pends, Pending}

@@ -1,21 +1,20 @@
 -- A property set by a follow-up: a plain object has its key already, an array gets it behind all others.
-use Rattle.std.proofs.Common.{◌≡◌, ℕ, zero, suc, ◌<◌, ◌≤◌, Bool, true, false, cond, ◌||◌, ◌⊎◌, List, [], ◌∷◌, ◌++◌, sym, refl, ap, ◌∙◌, subst, inl, inr, ⊎_elim, arith}
+use Rattle.std.proofs.Common.{◌≡◌, ℕ, ◌≤◌, Bool, true, false, cond, ◌⊎◌, List, [], ◌∷◌, ◌++◌, sym, refl, ap, ◌∙◌, subst, ⊎_elim, arith}
 use Rattle.std.specs.List.{AllByRecursion as All}
 use Rattle.std.proofs.ByRecursion.{All-weaker}
 use Rattle.std.proofs.lemmas.Bool.{or_left, or_right, both_ways, cond-true}
-use Rattle.dump.specs.Heaps as heaps
-use Rattle.dump.specs.Heaps.{Text, Value, Key, index, name, Part, property, element, entry, member, below, cause}
+use Rattle.dump.specs.Heaps.{Text, Value, Key, index, Part, property}
 use Rattle.numeral.specs.Words.{same_units}
 use Rattle.numeral.proofs.Laws.{same_units_lem}
 use Rattle.formed.specs.Formed as formed
 use Rattle.formed.specs.Formed.{KeyFormed, KeyBefore, PropertyFormed, PropertyBefore}
-use Rattle.planner.specs.Lates.{Task, sets, Late}
-use Rattle.evaluator.specs.Stores.{Val, undefined, Slot, keyed, has_key, set_key, add_key, with_key}
+use Rattle.planner.specs.Lates.{sets, Late}
+use Rattle.evaluator.specs.Stores.{Val, undefined, Slot, keyed, has_key, set_key, with_key}
 use Rattle.evaluator.specs.Isomorphic.{Pairing, Alike, AlikeParts, key_text}
 use Rattle.rebuilds.specs.Pending.{In, here, there, Waits, ordered_tasks, part_tasks, Front, Properties, p_end, p_same, p_waits}
 use Rattle.pending.proofs.Lists.{all_in, all_behind, all_before, pairwise_in, pairwise_before}
 use Rattle.pending.proofs.KeyTexts.{units_same, texts_apart}
-use Rattle.pending.proofs.Fronts.{Adds, Added, property_added, Next, front_next, next_added}
+use Rattle.pending.proofs.Fronts.{Adds, Added, property_added, front_next, next_added}
 use Rattle.pending.proofs.Slots.{key_formed, added_last}
 use Rattle.pending.proofs.Waits.{waits_other}
 

@@ -1,7 +1,7 @@
 -- A follow-up that sets a key runs, and its object lacks it no more.
-use Rattle.std.proofs.Common.{◌≡◌, ℕ, zero, suc, ◌+◌, ◌<◌, ◌≤◌, Bool, true, false, cond, not, ◌||◌, ◌⊎◌, List, [], ◌∷◌, ◌++◌, length, take, drop, Some, None, codes, decimal, Option, sym, refl, ap, ◌∙◌, subst, inl, inr, ⊎_elim, append_assoc, arith, length-take-le}
+use Rattle.std.proofs.Common.{◌≡◌, ℕ, ◌<◌, ◌≤◌, true, false, not, List, [], ◌∷◌, ◌++◌, length, take, drop, Some, None, codes, decimal, Option, sym, refl, ap, ◌∙◌, subst, inl, inr, ⊎_elim, append_assoc, arith, length-take-le}
 use Rattle.std.specs.List.{AllByRecursion as All}
-use Rattle.std.proofs.lemmas.Bool.{or_left, or_right, true≢false, false≢true, cond-true, both_ways}
+use Rattle.std.proofs.lemmas.Bool.{or_left, or_right, true≢false, cond-true}
 use Rattle.dump.specs.declared.kinds.ErrorName.{ErrorName}
 use Rattle.dump.specs.Heaps as heaps
 use Rattle.dump.specs.Heaps.{Text, Value, Key, index, name, Kind, boolean_object, number_object, bigint_object, string_object, plain, sparse, dense, map, set, Part, property, element, entry, member, below, cause, Heap}
@@ -10,13 +10,13 @@ use Rattle.formed.specs.Formed as formed
 use Rattle.formed.specs.Formed.{KeyFormed, PropertyFormed, ElementFormed, KindFormed, PartsFormed, ObjectFormed, Formed}
 use Rattle.planner.specs.Visits.{object_at}
 use Rattle.planner.specs.Names.{slot}
-use Rattle.planner.specs.Lates.{Task, sets, puts, adds, fills, Late, late_properties, late_elements, late_causes, late_members, lates_by, lates}
+use Rattle.planner.specs.Lates.{sets, puts, adds, fills, Late, late_properties, late_elements, late_causes, late_members, lates_by, lates}
 use Rattle.evaluator.specs.Options.{and_then, when}
-use Rattle.evaluator.specs.Stores.{Val, undefined, text, Shape, ordinary, array, error, Slot, keyed, single, Obj, has_key, set_key, add_key, with_key}
+use Rattle.evaluator.specs.Stores.{Val, Shape, ordinary, array, error, Slot, keyed, single, Obj, has_key, set_key, with_key}
 use Rattle.evaluator.specs.Makes.{message_in}
 use Rattle.evaluator.specs.Commands.{is_proto, assigned}
 use Rattle.evaluator.specs.Isomorphic.{Pairing, Alike, AlikeParts, key_text}
-use Rattle.rebuilds.specs.Pending.{In, here, there, Waits, ordered_tasks, Front, Properties, Elements, Dense, Failure, Pends, Pending}
+use Rattle.rebuilds.specs.Pending.{In, ordered_tasks, Front, Dense, Failure, Pends, Pending}
 use Rattle.pending.proofs.Lists.{in_cases, in-++, all_before, all_in}
 use Rattle.pending.proofs.KeyTexts.{name_index}
 use Rattle.pending.proofs.Lates.{ElementAt, not_task, element_bounds, one_element, in_properties, in_elements, in_members, in_causes, in_bytes}

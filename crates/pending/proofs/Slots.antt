@@ -1,19 +1,18 @@
 -- Slots by their keys: a key replaced, and a property of an array added behind all others.
-use Rattle.std.proofs.Common.{◌≡◌, ℕ, zero, suc, ◌+◌, ◌<◌, ◌≤◌, Bool, true, false, cond, not, ◌&&◌, ◌||◌, ltb, ◌⊎◌, List, [], ◌∷◌, ◌++◌, is_some, Some, None, codes, decimal, Option, sym, refl, ap, ◌∙◌, subst, inl, inr, ⊎_elim, arith}
+use Rattle.std.proofs.Common.{◌≡◌, ℕ, ◌≤◌, Bool, true, false, cond, not, ◌&&◌, ◌||◌, ltb, List, [], ◌∷◌, ◌++◌, is_some, Some, None, codes, decimal, Option, sym, refl, ap, ◌∙◌, subst, arith}
 use Rattle.std.specs.List.{AllByRecursion as All}
-use Rattle.std.proofs.lemmas.Bool.{cases_Bool, or_parts, and_from, not_from_false, or_from, or_right, or_left, lt-ltb, cond-true, cond-false, true≢false, false≢true}
-use Rattle.dump.specs.Heaps as heaps
+use Rattle.std.proofs.lemmas.Bool.{or_parts, and_from, not_from_false, or_from, lt-ltb, cond-true, cond-false, true≢false, false≢true}
 use Rattle.dump.specs.Heaps.{Text, Value, Key, index, name, Part, property, element, entry, member, below, cause}
 use Rattle.numeral.specs.Digits.{index_of}
 use Rattle.numeral.specs.Words.{same_units}
 use Rattle.formed.specs.Formed.{KeyFormed, KeyBefore, PropertyFormed, PropertyBefore}
 use Rattle.evaluator.specs.Options.{when}
-use Rattle.evaluator.specs.Stores.{Val, Shape, array, Slot, keyed, pair, single, Obj, key_is, has_key, set_key, index_below, slot_index, insert_index, add_key, with_key}
+use Rattle.evaluator.specs.Stores.{Val, array, Slot, keyed, key_is, has_key, set_key, index_below, insert_index, add_key, with_key}
 use Rattle.evaluator.specs.Commands.{is_proto, assigned}
-use Rattle.evaluator.specs.Isomorphic.{Pairing, Alike, AlikeParts, key_text}
+use Rattle.evaluator.specs.Isomorphic.{Pairing, AlikeParts, key_text}
 use Rattle.rebuilds.specs.Pending.{In, here, there}
 use Rattle.pending.proofs.Lists.{all_in}
-use Rattle.pending.proofs.KeyTexts.{units_apart, index_decimal, name_index, texts_apart}
+use Rattle.pending.proofs.KeyTexts.{units_apart, index_decimal, texts_apart}
 
 pub has-++ : (t : Text) (ss us : List Slot) → has_key t (ss ++ us) ≡ (has_key t ss || has_key t us)
 has-++ t [] us = refl

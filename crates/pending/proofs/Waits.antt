@@ -1,5 +1,5 @@
 -- A follow-up leaves the list of those to come: the others wait as before.
-use Rattle.std.proofs.Common.{◌≡◌, ℕ, true, false, List, [], ◌∷◌, ◌++◌, sym, ap, ◌∙◌}
+use Rattle.std.proofs.Common.{◌≡◌, ℕ, true, false, List, ◌∷◌, ◌++◌, sym, ap, ◌∙◌}
 use Rattle.std.proofs.lemmas.Bool.{false≢true}
 use Rattle.planner.specs.Lates.{Task, Late}
 use Rattle.rebuilds.specs.Pending.{Waits}

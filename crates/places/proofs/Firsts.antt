@@ -1,5 +1,5 @@
 -- The first of a list that passes a test: it is a member and passes, and where there is none, no member does.
-use Rattle.std.proofs.Common.{◌≡◌, ℕ, Bool, true, false, cond, eqb, ◌⊎◌, List, [], ◌∷◌, is_some, Some, None, Option, sym, refl, subst, inl, inr, ⊎_elim, eqb-true}
+use Rattle.std.proofs.Common.{◌≡◌, ℕ, Bool, true, false, cond, eqb, List, [], ◌∷◌, Some, None, sym, refl, subst, ⊎_elim, eqb-true}
 use Rattle.std.proofs.lemmas.Bool.{or_cases, both_ways, or_right}
 use Rattle.planner.specs.Visits.{mem}
 use Rattle.planner.specs.Names.{first}

@@ -1,10 +1,10 @@
--- Every planned statement of a formed heap whose doubles are spelled can be read back.
+-- Every planned statement of a bounded heap whose doubles are spelled can be read back.
 use Rattle.std.proofs.Common.{◌≡◌, ℕ, eqb, List, [], ◌∷◌, ◌++◌, get_or, Ok, Option}
 use Rattle.std.specs.List.{AllByRecursion as All}
 use Rattle.std.proofs.ByRecursion.{All-append, All-push}
 use Rattle.std.proofs.lemmas.Bool.{cond_both}
 use Rattle.dump.specs.Heaps.{Heap}
-use Rattle.formed.specs.Formed.{Formed}
+use Rattle.readables.specs.Bounded.{Bounded}
 use Rattle.script.specs.Syntax.{circular, form, Stmt, opening, const, last, return}
 use Rattle.planner.specs.Names.{pos}
 use Rattle.planner.specs.Builds.{built}
@@ -19,7 +19,7 @@ use Rattle.readables.proofs.Exprs.{done_readable, built_readable}
 use Rattle.readables.proofs.Follows.{DueWritable, lates_writable, due_writable, expr_readable, late_readable}
 use Rattle.effects.specs.Plans.{braced}
 
-module _ (h : Heap) (numeral : ℕ → Option (List ℕ)) (order : List ℕ) (f : Formed h) (a : Adequate h order) (s : HeapSpelled numeral h) where
+module _ (h : Heap) (numeral : ℕ → Option (List ℕ)) (order : List ℕ) (f : Bounded h) (a : Adequate h order) (s : HeapSpelled numeral h) where
   abbrev Dues : List (ℕ × Late) → Type 0
   Dues ds = All (DueWritable numeral h order) ds
 
@@ -50,13 +50,13 @@ module _ (h : Heap) (numeral : ℕ → Option (List ℕ)) (order : List ℕ) (f 
       let x = pos h order (target h order o) in
       cond_both (has_line h order o) (const (pos h order o) (get_or (built h order) x (form circular)) ∷ (due_at h order (pos h order o) (all_due h order order) ++ lines_at h order os)) (lines_at h order os) Stmts
       (λ e. (
-        (pos_small h order f a o, done_readable numeral h order f a (built h order) (built_readable numeral h order f a s) x),
+        (pos_small h order f.formed a o, done_readable numeral h order f a (built h order) (built_readable numeral h order f a s) x),
         All-append (StmtReadable numeral) (due_at h order (pos h order o) (all_due h order order)) (lines_at h order os) (due_at_lem (pos h order o) (all_due h order order) (all_due_lem order)) ih,
       ))
       (λ e. ih)
 
   root_readable : ExprReadable numeral (expr_of h order h.root)
-  root_readable = expr_readable numeral h order f a s h.root (root_writable numeral h f s)
+  root_readable = expr_readable numeral h order f a s h.root (root_writable numeral h f.formed s)
 
   all_stmts : (format : Format) → Stmts (stmts h order format)
   all_stmts format =
@@ -66,5 +66,5 @@ module _ (h : Heap) (numeral : ℕ → Option (List ℕ)) (order : List ℕ) (f 
       (λ e. All-push (StmtReadable numeral) (body h order) (last (braced root) root) (lines_at_lem order) (root_readable, λ b. b))
 
 -- whatever the format
-pub readables : (h : Heap) (numeral : ℕ → Option (List ℕ)) (order : List ℕ) (f : Format) → Formed h → Adequate h order → spelled_all numeral h ≡ Ok tt → All (StmtReadable numeral) (stmts h order f)
+pub readables : (h : Heap) (numeral : ℕ → Option (List ℕ)) (order : List ℕ) (f : Format) → Bounded h → Adequate h order → spelled_all numeral h ≡ Ok tt → All (StmtReadable numeral) (stmts h order f)
 readables h numeral order f formed adequate e = all_stmts h numeral order formed adequate (heap_spelled numeral h e) f

@@ -13,7 +13,7 @@ use Rattle.evaluator.specs.Tokens.{number, string}
 use Rattle.evaluator.specs.Trees.{leaf, node, Trees, nil, cons}
 use Rattle.evaluator.specs.Stores as stores
 use Rattle.evaluator.specs.Stores.{Val, undefined, boolean, big, ref, ordinary, State, Made, make, lookup}
-use Rattle.evaluator.specs.Makes.{construct, subarray, zeros}
+use Rattle.evaluator.specs.Makes.{construct, zeros}
 use Rattle.evaluator.specs.Runs.{nothing, of_made, all_vals, eval_list}
 use Rattle.evaluator.specs.Isomorphic.{whole_double, big_value}
 use Rattle.effects.specs.Effects.{canonical, count, maximum_key, some_args, form_made, typed_ref, typed_state}

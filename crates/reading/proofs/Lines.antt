@@ -8,7 +8,6 @@ use Rattle.script.specs.Items.{Item, blanks, line_end}
 use Rattle.script.specs.Syntax.{Expr, const, assign, put, add, fill, last}
 use Rattle.script.specs.Texts.{view_name, listing, list_of, expr_items, stmt_items}
 use Rattle.evaluator.specs.Options.{and_then}
-use Rattle.evaluator.specs.Tokens.{mark}
 use Rattle.evaluator.specs.Trees.{Tree, node, Trees, nil, cons, snoc, held, Growing, growing, grow, grown, trees}
 use Rattle.effects.specs.Tokens.{items_tokens}
 use Rattle.reading.specs.Trees.{append_t, one, comma, word_tree, name_tree, new_trees, member, list_of_trees, access_trees, expr_trees}

@@ -9,7 +9,7 @@ use Rattle.script.specs.Items.{Item, line_end}
 use Rattle.script.specs.Syntax.{Expr, Stmt, opening, const, assign, put, add, fill, last, return}
 use Rattle.script.specs.Texts.{view_name, Listing, numbers, floats, listing, expr_items, stmt_items}
 use Rattle.evaluator.specs.Options.{and_then, when, or_else}
-use Rattle.evaluator.specs.Tokens.{Token, word, mark, break}
+use Rattle.evaluator.specs.Tokens.{Token, word, break}
 use Rattle.evaluator.specs.Trees.{node, Trees, cons, trees}
 use Rattle.evaluator.specs.Stores as stores
 use Rattle.evaluator.specs.Stores.{Val, undefined, ref, bound, Obj, State, Made, made, lookup, change, place, object_of}

@@ -1,5 +1,5 @@
 -- What an order of a heap's objects must have for a plan by places. The order of a visit has it.
-use Rattle.std.specs.Prelude.{◌≡◌, ℕ, ◌<◌, ◌≤◌, true, List, [], ◌∷◌, length}
+use Rattle.std.specs.Prelude.{◌≡◌, ℕ, ◌<◌, ◌≤◌, true, List, [], length}
 use Rattle.dump.specs.Heaps.{object, Heap}
 use Rattle.planner.specs.Visits.{edges, mem}
 use Rattle.planner.specs.Names.{count, pos, uses, inlines}

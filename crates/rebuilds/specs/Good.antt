@@ -1,5 +1,5 @@
 -- An expression evaluates to a value, with the objects that it makes; names are bound to what they stand for.
-use Rattle.std.specs.Prelude.{◌≡◌, ℕ, ◌<◌, ◌≤◌, true, List, ◌++◌, Some, None, Option}
+use Rattle.std.specs.Prelude.{◌≡◌, ℕ, ◌<◌, ◌≤◌, true, List, ◌++◌, Some, None}
 use Rattle.dump.specs.Heaps.{Value, Heap}
 use Rattle.script.specs.Syntax.{Expr}
 use Rattle.planner.specs.Visits.{mem}

@@ -1,10 +1,10 @@
 -- Which objects the evaluation of each line makes, and how often.
-use Rattle.std.specs.Prelude.{ℕ, ◌+◌, Bool, true, false, cond, ◌&&◌, List, [], ◌∷◌, ◌++◌, take, Some, None, Option, ◌==◌, slice_index_or}
-use Rattle.dump.specs.Heaps.{Value, Kind, boolean_object, number_object, bigint_object, string_object, regexp, date, plain, sparse, dense, map, set, buffer, view, error, Part, property, element, entry, member, below, cause, Object, Heap}
-use Rattle.planner.specs.Visits.{refs, edges, edges_of, object_at}
+use Rattle.std.specs.Prelude.{ℕ, ◌+◌, cond, ◌&&◌, List, [], ◌∷◌, ◌++◌, take, Some, None, Option, ◌==◌, slice_index_or}
+use Rattle.dump.specs.Heaps.{Kind, boolean_object, number_object, bigint_object, string_object, regexp, date, plain, sparse, dense, map, set, buffer, view, error, Part, property, element, entry, member, below, cause, Heap}
+use Rattle.planner.specs.Visits.{refs, edges, object_at}
 use Rattle.planner.specs.Names.{count, pos, slot, has_name, ready_before, backing}
-use Rattle.planner.specs.Lates.{Task, sets, puts, adds, fills, Late, lates, due}
-use Rattle.planner.specs.Lines.{target, has_line, all_due}
+use Rattle.planner.specs.Lates.{Task, sets, puts, adds, fills, Late}
+use Rattle.planner.specs.Lines.{has_line, all_due}
 
 -- the objects to which a task refers
 abbrev pub task_refs : Task → List ℕ
