@@ -5,7 +5,7 @@ use Rattle.std.proofs.lemmas.Bool.{cond_both}
 use Rattle.dump.specs.Heaps as heaps
 use Rattle.dump.specs.Heaps.{Text, Value, Key, name, Kind, Part, below, Heap}
 use Rattle.script.specs.Texts.{all_zero}
-use Rattle.formed.specs.Formed.{PropertyFormed, ElementFormed, EntryFormed, MemberFormed, CauseFormed, PartsFormed, Formed}
+use Rattle.formed.specs.Formed.{PropertyFormed, ElementFormed, EntryFormed, MemberFormed, CauseFormed, PartsFormed}
 use Rattle.planner.specs.Visits.{refs, refs_of, edges_of, object_at, edges}
 use Rattle.planner.specs.Names.{count, slot, ready_before}
 use Rattle.planner.specs.Lates.{sets, puts, adds, Late, late_properties, late_elements, late_members, late_causes, late_bytes, lates_by, lates}
@@ -14,6 +14,7 @@ use Rattle.places.proofs.Objects.{formed_at}
 use Rattle.places.proofs.Lates.{edges_split}
 use Rattle.counts.proofs.Inner.{count_within}
 use Rattle.effects.specs.Plans.{stack_text}
+use Rattle.effects.specs.Bounded.{Bounded}
 
 module _ (h : Heap) (order : List ℕ) (y : ℕ) where
   -- how often follow-ups make y
@@ -198,5 +199,5 @@ module _ (h : Heap) (order : List ℕ) (y : ℕ) where
         omega arith
 
   -- what is written and what follows are together all that hangs in an object
-  pub lates_made : Formed h → (x : ℕ) → count y (within h order (written h order x)) + lates_make (lates h order x) ≡ count y (within h order (edges h x))
+  pub lates_made : Bounded h → (x : ℕ) → count y (within h order (written h order x)) + lates_make (lates h order x) ≡ count y (within h order (edges h x))
   lates_made f x = kind_made x (slot h order x) (object_at h x).kind (object_at h x).parts (formed_at h f x).1

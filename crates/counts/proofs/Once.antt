@@ -2,7 +2,6 @@
 use Rattle.std.proofs.Common.{◌≡◌, ℕ, ◌+◌, ◌≤◌, Bool, true, false, cond, ◌&&◌, eqb, List, [], ◌∷◌, is_some, Some, None, Option, sym, refl, ap, ◌∙◌, ⊎_elim, arith, eq-eqb, eqb-true}
 use Rattle.std.proofs.lemmas.Bool.{cases_Bool, both_ways, and_parts, cond-true}
 use Rattle.dump.specs.Heaps.{Heap}
-use Rattle.formed.specs.Formed.{Formed}
 use Rattle.planner.specs.Visits.{mem}
 use Rattle.planner.specs.Names.{pos, backing, is_same, backed, slot, has_name}
 use Rattle.planner.specs.Lates.{lates}
@@ -18,6 +17,7 @@ use Rattle.counts.proofs.Within.{count_at}
 use Rattle.counts.proofs.Follows.{lates_make, lates_made}
 use Rattle.counts.proofs.Dues.{all_due_total, places_total}
 use Rattle.counts.proofs.Trees.{tree, named, self_total, named_total}
+use Rattle.effects.specs.Bounded.{Bounded}
 
 -- sums of a test
 cond_le : (b : Bool) (n : ℕ) → cond b n 0 ≤ n
@@ -40,7 +40,7 @@ same_some : (h : Heap) (order : List ℕ) (o : Option ℕ) (x : ℕ) → is_same
 same_some h order None x e = absurd (both_ways false refl e)
 same_some h order (Some z) x e = ap (λ u. Some u) (sym (eqb-true x z e))
 
-module _ (h : Heap) (order : List ℕ) (y : ℕ) (f : Formed h) (a : Adequate h order) where
+module _ (h : Heap) (order : List ℕ) (y : ℕ) (f : Bounded h) (a : Adequate h order) where
   -- what the line at the place of an object makes, with all that follows from it
   abbrev line : ℕ → ℕ
   line o = cond (has_line h order o) (line_makes h order o y + lates_make h order y (lates h order (target h order o))) 0
@@ -170,7 +170,7 @@ module _ (h : Heap) (order : List ℕ) (y : ℕ) (f : Formed h) (a : Adequate h 
           let ge = count_mem y order view in
           omega arith
 
-pub once_made : (h : Heap) (order : List ℕ) → Formed h → Adequate h order → (y : ℕ) → lines_make h order order y + root_makes h order y ≤ 1
+pub once_made : (h : Heap) (order : List ℕ) → Bounded h → Adequate h order → (y : ℕ) → lines_make h order order y + root_makes h order y ≤ 1
 once_made h order f a y =
     let lines = lines_le h order y f a in
     let le = total_le (λ o. line h order y f a o + backs_is h order y f a o) (λ o. named h order y o + backing_is h order y f a o) order (line_le h order y f a) in

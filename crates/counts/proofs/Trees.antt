@@ -2,7 +2,6 @@
 use Rattle.std.proofs.Common.{◌≡◌, ℕ, ◌+◌, ◌*◌, Bool, true, false, cond, eqb, List, [], ◌∷◌, ◌++◌, get_or, sym, refl, ap, ◌∙◌, subst, ⊎_elim, add-mul, one-mul, mul-zero, zero-mul, arith}
 use Rattle.std.proofs.lemmas.Bool.{cases_Bool, or_right, cond-true}
 use Rattle.dump.specs.Heaps.{Heap}
-use Rattle.formed.specs.Formed.{Formed}
 use Rattle.planner.specs.Visits.{refs, edges, mem}
 use Rattle.planner.specs.Names.{count, pos, uses_by, uses, has_name}
 use Rattle.visits.proofs.Lists.{count-++, mem_head}
@@ -12,6 +11,7 @@ use Rattle.counts.proofs.Sums.{total, total_same, total_zero, total_add, total_o
 use Rattle.places.proofs.Dues.{root_in}
 use Rattle.places.proofs.Names as names
 use Rattle.counts.proofs.Within.{count_at}
+use Rattle.effects.specs.Bounded.{Bounded}
 
 module _ (h : Heap) (order : List ℕ) (y : ℕ) where
   -- how often an object with all that hangs in it without a name makes y
@@ -48,7 +48,7 @@ module _ (h : Heap) (order : List ℕ) (y : ℕ) where
   self_total [] = refl
   self_total (x ∷ xs) = let ih = self_total xs in omega arith
 
-  module _ (f : Formed h) (a : Adequate h order) where
+  module _ (f : Bounded h) (a : Adequate h order) where
     -- the sum over all edges of some objects, by how often each object is used
     edges_total : (os : List ℕ) → ((o : ℕ) → mem o os ≡ true → mem o order ≡ true) → total (λ o. total unnamed (edges h o)) os ≡ total (λ x. uses_by h order os x * unnamed x) order
     edges_total [] inside = sym (total_zero (λ x. 0 * unnamed x) order (λ x m. zero-mul (unnamed x)))

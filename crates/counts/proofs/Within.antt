@@ -3,7 +3,6 @@ use Rattle.std.proofs.Common.{◌≡◌, ℕ, ◌+◌, ◌<◌, true, false, Lis
 use Rattle.std.proofs.lemmas.List.{get_or_append_left, get_or_at}
 use Rattle.std.proofs.lemmas.Bool.{cond-true, cond-false}
 use Rattle.dump.specs.Heaps.{Heap}
-use Rattle.formed.specs.Formed.{Formed}
 use Rattle.planner.specs.Visits.{edges, mem}
 use Rattle.planner.specs.Names.{count, pos, has_name}
 use Rattle.visits.proofs.Lists.{count-++, split_at, once_before}
@@ -14,6 +13,7 @@ use Rattle.places.proofs.Names.{unnamed}
 use Rattle.places.proofs.Lates.{no_lates}
 use Rattle.counts.proofs.Inner.{inner_append, makes_kept, makes_length, makes_append, inner_same}
 use Rattle.counts.proofs.Follows.{lates_make, lates_made}
+use Rattle.effects.specs.Bounded.{Bounded}
 
 module _ (h : Heap) (order : List ℕ) where
   -- appended references, one by one
@@ -29,7 +29,7 @@ module _ (h : Heap) (order : List ℕ) where
   within_one j e = cond-false (has_name h order j) [] (get_or (makes h order) (pos h order j) [] ++ []) e ∙ append-nil (get_or (makes h order) (pos h order j) [])
 
   -- at the place of an object: what hangs in it without a name, and itself
-  pub makes_at : (x : ℕ) → Formed h → Adequate h order → mem x order ≡ true → get_or (makes h order) (pos h order x) [] ≡ within h order (edges h x) ++ (x ∷ [])
+  pub makes_at : (x : ℕ) → Bounded h → Adequate h order → mem x order ≡ true → get_or (makes h order) (pos h order x) [] ≡ within h order (edges h x) ++ (x ∷ [])
   makes_at x f a m =
       let s = split_at x order m in
       let n = once_before x order s.before s.after (a.once x) s.whole in
@@ -49,11 +49,11 @@ module _ (h : Heap) (order : List ℕ) where
       here_is ∙ ap (λ z. z ++ (x ∷ [])) same
 
   -- how often a place makes an object
-  pub count_at : (x : ℕ) → Formed h → Adequate h order → mem x order ≡ true → (y : ℕ) → count y (get_or (makes h order) (pos h order x) []) ≡ count y (within h order (edges h x)) + one y x
+  pub count_at : (x : ℕ) → Bounded h → Adequate h order → mem x order ≡ true → (y : ℕ) → count y (get_or (makes h order) (pos h order x) []) ≡ count y (within h order (edges h x)) + one y x
   count_at x f a m y = let e = ap (count y) (makes_at x f a m) ∙ count-++ y (within h order (edges h x)) (x ∷ []) in omega arith
 
   -- without a name, the expression writes all that hangs in it, as it leaves nothing to do
-  pub within_unnamed : (x : ℕ) → Formed h → Adequate h order → mem x order ≡ true → has_name h order x ≡ false → (y : ℕ) → count y (within h order (x ∷ [])) ≡ expr_makes h order x y
+  pub within_unnamed : (x : ℕ) → Bounded h → Adequate h order → mem x order ≡ true → has_name h order x ≡ false → (y : ℕ) → count y (within h order (x ∷ [])) ≡ expr_makes h order x y
   within_unnamed x f a m n y =
       let place = ap (count y) (within_one x n) ∙ count_at x f a m y in
       let all = lates_made h order y f x in

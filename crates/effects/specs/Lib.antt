@@ -1,4 +1,5 @@
+pub mod Bounded
 pub mod Effects
+pub mod Plans
 pub mod Readable
 pub mod Tokens
-pub mod Plans

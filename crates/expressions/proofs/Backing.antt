@@ -5,7 +5,6 @@ use Rattle.dump.specs.declared.kinds.ViewKind.{ViewKind}
 use Rattle.dump.specs.Heaps as heaps
 use Rattle.dump.specs.Heaps.{below, object, Heap}
 use Rattle.dump.specs.Kinds.{width}
-use Rattle.formed.specs.Formed.{Formed}
 use Rattle.script.specs.Syntax.{form, new_typed}
 use Rattle.planner.specs.Visits.{object_at}
 use Rattle.planner.specs.Builds.{object_expr, built}
@@ -24,8 +23,9 @@ use Rattle.expressions.proofs.Makes.{elements_of}
 use Rattle.expressions.proofs.Typed.{typed}
 use Rattle.expressions.proofs.Buffers.{whole_buffer}
 use Rattle.expressions.proofs.Exprs.{named_expr}
+use Rattle.effects.specs.Bounded.{Bounded}
 
-module _ (h : Heap) (f : Formed h) (order : List ℕ) where
+module _ (h : Heap) (f : Bounded h) (order : List ℕ) where
   pub covering_good : (x b : ℕ) (k : ViewKind) (n : ℕ) (bytes : List ℕ) →
       (object_at h x).kind ≡ heaps.view k 0 n false → (object_at h x).parts ≡ below b ∷ [] → (object_at h b).kind ≡ heaps.buffer bytes None → n * width k ≡ length bytes →
       (own : Pairing) (s : State) → length own ≡ length s.objects → Good h order own s (form (new_typed k bytes)) (object x) (λ y. one y b + one y x)
@@ -45,7 +45,7 @@ module _ (h : Heap) (f : Formed h) (order : List ℕ) where
         counts = λ y. omega (arith, t.counts y);
       }
 
-module _ (h : Heap) (f : Formed h) (order : List ℕ) (ad : Adequate h order) where
+module _ (h : Heap) (f : Bounded h) (order : List ℕ) (ad : Adequate h order) where
   pub backing_good : (b w : ℕ) → Backs h f order ad b w → (own : Pairing) (left : ℕ → List Late) (s : State) → Store h own left own s.objects →
       Good h order own s (object_expr h order (built h order) w) (object w) (λ y. one y b + one y w)
   backing_good b w k own left s st =

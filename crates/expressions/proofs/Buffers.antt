@@ -4,7 +4,6 @@ use Rattle.std.proofs.lemmas.Bool.{cases_Bool, and_parts, eqb-true}
 use Rattle.dump.specs.declared.kinds.ViewKind.{ViewKind}
 use Rattle.dump.specs.Heaps as heaps
 use Rattle.dump.specs.Heaps.{object, Heap}
-use Rattle.formed.specs.Formed.{Formed}
 use Rattle.script.specs.Syntax.{form, buffer_form, new_resizable, data_buffer}
 use Rattle.script.specs.Texts.{all_zero, listing}
 use Rattle.planner.specs.Visits.{object_at}
@@ -22,13 +21,14 @@ use Rattle.pending.proofs.Lists.{all2_length}
 use Rattle.places.proofs.Objects.{buffer_parts}
 use Rattle.expressions.proofs.Stores.{nth_beyond, pending_by}
 use Rattle.expressions.proofs.Typed.{typed}
+use Rattle.effects.specs.Bounded.{Bounded}
 
 -- bytes that are all zero
 pub all_zeros : (bytes : List ℕ) → all_zero bytes ≡ true → zeros (length bytes) ≡ bytes
 all_zeros [] e = refl
 all_zeros (x ∷ xs) e = let p = and_parts (eqb x 0) (all_zero xs) e in let z = sym (eqb-true x 0 p.0) in λ i. z i ∷ all_zeros xs p.1 i
 
-module _ (h : Heap) (f : Formed h) (order : List ℕ) where
+module _ (h : Heap) (f : Bounded h) (order : List ℕ) where
   -- a built buffer that has its bytes
   pub whole_buffer : (own : Pairing) (x : ℕ) (ls : List Late) (bytes : List ℕ) (maximum : Option ℕ) → (object_at h x).kind ≡ heaps.buffer bytes maximum → Pending h own x ls (record { shape = buffer bytes maximum; slots = [] })
   whole_buffer own x ls bytes maximum e =

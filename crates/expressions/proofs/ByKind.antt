@@ -4,7 +4,7 @@ use Rattle.std.specs.List.{AllByRecursion as All}
 use Rattle.std.proofs.lemmas.Bool.{cases_Bool, or_cases, both_ways}
 use Rattle.dump.specs.Heaps as heaps
 use Rattle.dump.specs.Heaps.{Key, index, Value, object, Heap, Kind, boolean_object, number_object, bigint_object, string_object, regexp, date, plain, sparse, dense, Part, property, element, entry, member, below, cause}
-use Rattle.formed.specs.Formed.{Formed, PropertyFormed, PartsFormed}
+use Rattle.formed.specs.Formed.{PropertyFormed, PartsFormed}
 use Rattle.script.specs.Syntax as syntax
 use Rattle.script.specs.Syntax.{Expr, group, braces, brackets}
 use Rattle.planner.specs.Visits.{edges, edges_of, mem, object_at}
@@ -33,6 +33,7 @@ use Rattle.expressions.proofs.Keys.{b_end}
 use Rattle.expressions.proofs.Rows.{AllBehind, AllHeld, KeysGood, keys_good}
 use Rattle.expressions.proofs.Elements.{RowGood, row_good}
 use Rattle.expressions.proofs.Finish.{finish}
+use Rattle.effects.specs.Bounded.{Bounded}
 
 -- tasks in their order
 
@@ -78,7 +79,7 @@ all_first : (ps : List Part) → AllBehind [] ps
 all_first [] = tt
 all_first (p ∷ ps) = (λ k v e. b_end, all_first ps)
 
-module _ (h : Heap) (f : Formed h) (order : List ℕ) (ad : Adequate h order) (x : ℕ) (mx : mem x order ≡ true) (nb : backed h order x ≡ None) (t : ℕ) (le : pos h order x ≤ t) where
+module _ (h : Heap) (f : Bounded h) (order : List ℕ) (ad : Adequate h order) (x : ℕ) (mx : mem x order ≡ true) (nb : backed h order x ≡ None) (t : ℕ) (le : pos h order x ≤ t) where
   -- what an object refers to and is ready is held
   pub held : (j : ℕ) → mem j (edges h x) ≡ true → ready_before h order (slot h order x) (object j) ≡ true → Held h order (pos h order x) t j
   held j m e =

@@ -4,7 +4,7 @@ use Rattle.std.specs.List.{AllByRecursion as All}
 use Rattle.std.proofs.lemmas.Bool.{cond-true}
 use Rattle.dump.specs.Heaps as heaps
 use Rattle.dump.specs.Heaps.{Key, index, Value, Heap, Part, property, element, entry, member, below, cause}
-use Rattle.formed.specs.Formed.{Formed, ValueFormed, ElementFormed}
+use Rattle.formed.specs.Formed.{ValueFormed, ElementFormed}
 use Rattle.script.specs.Syntax as syntax
 use Rattle.script.specs.Syntax.{Expr, Items, item}
 use Rattle.planner.specs.Visits.{refs, edges_of, mem}
@@ -25,6 +25,7 @@ use Rattle.pending.proofs.Grows.{ext_append, alike_ext}
 use Rattle.expressions.proofs.Steps.{Ready, Step, step_nil, step_then, step_ready, occ-++}
 use Rattle.expressions.proofs.Values.{Fresh, NamesGood, PlacesGood}
 use Rattle.expressions.proofs.Rows.{AllHeld, ready_refs, ChildGood, child_good, count_within, element_formed}
+use Rattle.effects.specs.Bounded.{Bounded}
 
 -- an element that is no hole is an item
 element_item_lem : (h : Heap) (order : List ℕ) (done : List Expr) (t : ℕ) (n : ℕ) (v : Value) (is : Items) → ValueFormed n v → element_items h order done t v is ≡ item (child_expr h order done t v) is
@@ -38,7 +39,7 @@ element_item_lem h order done t n (heaps.bigint b) is w = refl
 element_item_lem h order done t n (heaps.text b) is w = refl
 element_item_lem h order done t n (heaps.object o) is w = refl
 
-module _ (h : Heap) (f : Formed h) (order : List ℕ) (ad : Adequate h order) (by_name : NamesGood h order) (n : ℕ) (by_place : PlacesGood h order n) (x T t : ℕ) (ls : List Late) where
+module _ (h : Heap) (f : Bounded h) (order : List ℕ) (ad : Adequate h order) (by_name : NamesGood h order) (n : ℕ) (by_place : PlacesGood h order n) (x T t : ℕ) (ls : List Late) where
   pub record RowGood (own : Pairing) (s : State) (i : ℕ) (ps : List Part) : Type 0 where
     pub adds : Pairing
     pub state : State

@@ -3,7 +3,7 @@ use Rattle.std.proofs.Common.{◌≡◌, ℕ, ◌+◌, Bool, true, false, ◌&&�
 use Rattle.std.specs.List.{AllByRecursion as All}
 use Rattle.std.proofs.lemmas.Bool.{cases_Bool, cond-true, cond-false, and_parts}
 use Rattle.dump.specs.Heaps.{Value, Heap, Part, entry}
-use Rattle.formed.specs.Formed.{Formed, ValueFormed, Pairwise, EntryFormed, EntryApart}
+use Rattle.formed.specs.Formed.{ValueFormed, Pairwise, EntryFormed, EntryApart}
 use Rattle.script.specs.Syntax as syntax
 use Rattle.script.specs.Syntax.{Items, none}
 use Rattle.planner.specs.Visits.{refs, edges_of}
@@ -26,6 +26,7 @@ use Rattle.expressions.proofs.Values.{Fresh, NamesGood, PlacesGood}
 use Rattle.expressions.proofs.Rows.{count_within}
 use Rattle.expressions.proofs.Apart.{on_entry, pairwise_before, entries_end}
 use Rattle.expressions.proofs.Readies.{Holds, ReadyGood, ready_good}
+use Rattle.effects.specs.Bounded.{Bounded}
 
 -- once one is late, so are all behind it
 late_all : (h : Heap) (order : List ℕ) (x T m : ℕ) (ps : List Part) → All (EntryFormed m) ps → ordered_tasks (late_members h order true x T ps) ≡ part_tasks ps
@@ -36,7 +37,7 @@ late_all h order x T m (p ∷ ps) w = on_entry (λ q. ordered_tasks (late_member
 abbrev two : Val → Val → Obj
 two k v = record { shape = array 2; slots = element_slots 0 (Some k ∷ Some v ∷ []) }
 
-module _ (h : Heap) (f : Formed h) (order : List ℕ) (ad : Adequate h order) (by_name : NamesGood h order) (n : ℕ) (by_place : PlacesGood h order n) (x T t : ℕ) where
+module _ (h : Heap) (f : Bounded h) (order : List ℕ) (ad : Adequate h order) (by_name : NamesGood h order) (n : ℕ) (by_place : PlacesGood h order n) (x T t : ℕ) where
   -- key and value are ready
   abbrev ready_both : Value → Value → Bool
   ready_both k v = ready_before h order T k && ready_before h order T v

@@ -3,7 +3,7 @@ use Rattle.std.proofs.Common.{◌≡◌, ℕ, ◌+◌, true, false, ◌⊎◌, L
 use Rattle.std.specs.List.{AllByRecursion as All}
 use Rattle.std.proofs.lemmas.Bool.{cases_Bool, cond-true, cond-false}
 use Rattle.dump.specs.Heaps.{Value, Heap, Part, member}
-use Rattle.formed.specs.Formed.{Formed, Pairwise, MemberFormed, MemberApart}
+use Rattle.formed.specs.Formed.{Pairwise, MemberFormed, MemberApart}
 use Rattle.script.specs.Syntax.{none, item}
 use Rattle.planner.specs.Visits.{refs, edges_of}
 use Rattle.planner.specs.Names.{count, ready_before}
@@ -26,13 +26,14 @@ use Rattle.expressions.proofs.Values.{Fresh, NamesGood, PlacesGood}
 use Rattle.expressions.proofs.Rows.{count_within}
 use Rattle.expressions.proofs.Apart.{on_member, pairwise_before, singles, members_end}
 use Rattle.expressions.proofs.Readies.{Holds, ReadyGood, ready_good}
+use Rattle.effects.specs.Bounded.{Bounded}
 
 -- once one is late, so are all behind it
 late_all : (h : Heap) (order : List ℕ) (x T m : ℕ) (ps : List Part) → All (MemberFormed m) ps → ordered_tasks (late_members h order true x T ps) ≡ part_tasks ps
 late_all h order x T m [] w = refl
 late_all h order x T m (p ∷ ps) w = on_member (λ q. ordered_tasks (late_members h order true x T (q ∷ ps)) ≡ part_tasks (q ∷ ps)) m (λ v k. ap (λ z. lates.adds v ∷ z) (late_all h order x T m ps w.1)) p w.0
 
-module _ (h : Heap) (f : Formed h) (order : List ℕ) (ad : Adequate h order) (by_name : NamesGood h order) (n : ℕ) (by_place : PlacesGood h order n) (x T t : ℕ) where
+module _ (h : Heap) (f : Bounded h) (order : List ℕ) (ad : Adequate h order) (by_name : NamesGood h order) (n : ℕ) (by_place : PlacesGood h order n) (x T t : ℕ) where
   -- the values that are made
   record Row (own : Pairing) (s : State) (ps : List Part) : Type 0 where
     adds : Pairing

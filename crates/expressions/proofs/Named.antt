@@ -1,7 +1,6 @@
 -- The name of an object, or that of its backing view with `.buffer` behind it, evaluates to what stands for the object, and makes nothing.
 use Rattle.std.proofs.Common.{◌≡◌, ℕ, ◌<◌, true, false, cond, ◌⊎◌, List, [], is_some, Some, None, sym, refl, ap, ◌∙◌, subst, ⊎_elim, append-nil, arith}
 use Rattle.dump.specs.Heaps.{object, Heap}
-use Rattle.formed.specs.Formed.{Formed}
 use Rattle.script.specs.Syntax.{form, named, buffer_of_named}
 use Rattle.planner.specs.Visits.{mem}
 use Rattle.planner.specs.Names.{pos, backing, slot, has_name}
@@ -21,12 +20,13 @@ use Rattle.places.proofs.Names.{Backs, backs}
 use Rattle.places.proofs.Lines.{At, bound_at, line_backed}
 use Rattle.expressions.proofs.Stores.{Viewing, viewing}
 use Rattle.expressions.proofs.Makes.{view_at_lem}
+use Rattle.effects.specs.Bounded.{Bounded}
 
 -- nothing more in the store
 pub grown_none : (s : State) → grown s [] ≡ s
 grown_none s = ap (λ xs. record { objects = xs; names = s.names }) (append-nil s.objects)
 
-module _ (h : Heap) (f : Formed h) (order : List ℕ) (ad : Adequate h order) (own : Pairing) (left : ℕ → List Late) (s : State) (t : ℕ) (names : Names h order own t s.names) (store : Store h own left own s.objects) where
+module _ (h : Heap) (f : Bounded h) (order : List ℕ) (ad : Adequate h order) (own : Pairing) (left : ℕ → List Late) (s : State) (t : ℕ) (names : Names h order own t s.names) (store : Store h own left own s.objects) where
   -- the name of a backing view stands for it, and for its buffer
   pub record Backed (b w : ℕ) : Type 0 where
     pub at : ℕ

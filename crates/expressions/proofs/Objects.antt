@@ -4,7 +4,7 @@ use Rattle.std.proofs.lemmas.Bool.{cases_Bool, cond-true, cond-false}
 use Rattle.dump.specs.declared.kinds.ErrorName.{ErrorName}
 use Rattle.dump.specs.Heaps as heaps
 use Rattle.dump.specs.Heaps.{Text, Value, object, name, Kind, map, set, Part, cause, Heap}
-use Rattle.formed.specs.Formed.{Formed, ValueFormed, CauseFormed, PartsFormed}
+use Rattle.formed.specs.Formed.{ValueFormed, CauseFormed, PartsFormed}
 use Rattle.script.specs.Syntax.{none, item}
 use Rattle.planner.specs.Visits.{refs, edges, edges_of, object_at}
 use Rattle.planner.specs.Names.{count, slot, ready_before}
@@ -31,6 +31,7 @@ use Rattle.expressions.proofs.Readies.{Holds, ReadyGood, ready_good}
 use Rattle.expressions.proofs.Members.{MembersGood, members_good}
 use Rattle.expressions.proofs.Entries.{EntriesGood, entries_good}
 use Rattle.effects.specs.Plans.{stack_text}
+use Rattle.effects.specs.Bounded.{Bounded}
 
 -- a part that is a cause
 on_cause : (P : Part → Type 0) (n : ℕ) → ((v : Value) → ValueFormed n v → P (cause v)) → (p : Part) → CauseFormed n p → P p
@@ -79,7 +80,7 @@ module _ (h : Heap) (order : List ℕ) (x : ℕ) where
   pub fresh_written : (own : Pairing) (k : Kind) → (object_at h x).kind ≡ k → Fresh own (expr_makes h order x) → Fresh own (λ y. count y (within h order (written_by h order (slot h order x) k (object_at h x).parts)))
   fresh_written own k e fresh = subst (λ z. Fresh own (λ y. count y (within h order (written_by h order (slot h order x) z (object_at h x).parts)))) e (λ y. let q = fresh y in omega arith)
 
-module _ (h : Heap) (f : Formed h) (order : List ℕ) (ad : Adequate h order) (by_name : NamesGood h order) (n : ℕ) (by_place : PlacesGood h order n) (x t : ℕ) where
+module _ (h : Heap) (f : Bounded h) (order : List ℕ) (ad : Adequate h order) (by_name : NamesGood h order) (n : ℕ) (by_place : PlacesGood h order n) (x t : ℕ) where
   -- the place at which its name is bound
   abbrev T : ℕ
   T = slot h order x

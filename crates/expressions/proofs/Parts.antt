@@ -5,7 +5,6 @@ use Rattle.dump.specs.declared.kinds.ViewKind.{ViewKind}
 use Rattle.dump.specs.Heaps as heaps
 use Rattle.dump.specs.Heaps.{below, object, Heap}
 use Rattle.dump.specs.Kinds.{width}
-use Rattle.formed.specs.Formed.{Formed}
 use Rattle.script.specs.Syntax as syntax
 use Rattle.script.specs.Syntax.{form, typed_part}
 use Rattle.planner.specs.Visits.{object_at}
@@ -23,7 +22,7 @@ use Rattle.rebuilds.specs.Pending.{a_nil, Store}
 use Rattle.rebuilds.specs.Good.{Good, Names}
 use Rattle.pending.proofs.Lists.{all2_length}
 use Rattle.pending.proofs.Stores.{store_at}
-use Rattle.places.proofs.Objects.{kind_formed}
+use Rattle.places.proofs.Objects.{buffer_short}
 use Rattle.places.proofs.Names.{Backs}
 use Rattle.expressions.proofs.Stores.{Sized, buffered}
 use Rattle.expressions.proofs.Makes.{elements_back, elements_of, Bounds, from, both, parted}
@@ -32,6 +31,7 @@ use Rattle.expressions.proofs.Typed.{typed}
 use Rattle.expressions.proofs.Buffers.{whole_buffer}
 use Rattle.expressions.proofs.Named.{grown_none, backing_bound, on_backed}
 use Rattle.expressions.proofs.Over.{recount, push_view}
+use Rattle.effects.specs.Bounded.{Bounded}
 
 -- The arguments as they are written: the end is left out where the array ends, and then a start of 0.
 module _ (s : State) (w : ℕ) (v : Val) (start end size : ℕ) (out : Option Made) (bound : lookup s.names w ≡ Some v) (gives : (vs : List Val) → Bounds start end size vs → subarray v vs s ≡ out) where
@@ -43,12 +43,12 @@ module _ (s : State) (w : ℕ) (v : Val) (start end size : ℕ) (out : Option Ma
       go true z = ap (λ o. and_then o (λ v. subarray v [] s)) bound ∙ gives [] (makes.none (eqb-true start 0 z) (e refl))
       go false z = ap (λ o. and_then o (λ v. subarray v (count start ∷ []) s)) bound ∙ gives (count start ∷ []) (from (e refl))
 
-module _ (h : Heap) (f : Formed h) (order : List ℕ) (own : Pairing) (s : State) (x b : ℕ) (k : ViewKind) (offset n : ℕ) (bytes : List ℕ)
+module _ (h : Heap) (f : Bounded h) (order : List ℕ) (own : Pairing) (s : State) (x b : ℕ) (k : ViewKind) (offset n : ℕ) (bytes : List ℕ)
     (viewed : (object_at h x).kind ≡ heaps.view k offset n false) (on : (object_at h x).parts ≡ below b ∷ []) (is_buffer : (object_at h b).kind ≡ heaps.buffer bytes None)
     (typed-array : is_view k ≡ true) (aligned : offset % width k ≡ 0) (even : length bytes % width k ≡ 0) (inside : offset + n * width k ≤ length bytes) where
   -- the bytes of a buffer are few
   few : length bytes ≤ 9007199254740991
-  few = let a = (kind_formed h f b (heaps.buffer bytes None) is_buffer).2 in omega arith
+  few = let a = buffer_short h f b bytes None is_buffer in omega arith
 
   -- new K([..]).subarray(start, end)
   pub part_good : length own ≡ length s.objects → Good h order own s (form (typed_part k bytes (offset / width k) (offset / width k + n))) (object x) (λ y. one y b + one y x)

@@ -2,7 +2,7 @@
 use Rattle.std.proofs.Common.{◌≡◌, ℕ, ◌+◌, ◌≤◌, true, false, ◌⊎◌, List, [], ◌++◌, length, sym, ap, ◌∙◌, subst, ⊎_elim}
 use Rattle.std.proofs.lemmas.Bool.{cond-true, both_ways}
 use Rattle.dump.specs.Heaps.{Value, Heap}
-use Rattle.formed.specs.Formed.{Formed, ValueFormed}
+use Rattle.formed.specs.Formed.{ValueFormed}
 use Rattle.script.specs.Syntax.{form, circular}
 use Rattle.planner.specs.Visits.{refs}
 use Rattle.planner.specs.Names.{count, ready_before}
@@ -16,8 +16,9 @@ use Rattle.rebuilds.specs.Pending.{occ}
 use Rattle.expressions.proofs.Steps.{Ready, Step}
 use Rattle.expressions.proofs.Values.{Fresh, NamesGood, PlacesGood}
 use Rattle.expressions.proofs.Rows.{AllHeld, child_good}
+use Rattle.effects.specs.Bounded.{Bounded}
 
-module _ (h : Heap) (f : Formed h) (order : List ℕ) (ad : Adequate h order) (by_name : NamesGood h order) (n : ℕ) (by_place : PlacesGood h order n) (x T t : ℕ) where
+module _ (h : Heap) (f : Bounded h) (order : List ℕ) (ad : Adequate h order) (by_name : NamesGood h order) (n : ℕ) (by_place : PlacesGood h order n) (x T t : ℕ) where
   -- references that are ready are held
   abbrev pub Holds : List ℕ → Type 0
   Holds js = AllHeld h f order ad by_name n by_place x T t [] js

@@ -5,7 +5,7 @@ use Rattle.std.proofs.lemmas.Bool.{cases_Bool, cond-true, cond-false, both_ways,
 use Rattle.dump.specs.Heaps as heaps
 use Rattle.dump.specs.Heaps.{Text, Key, index, name, Value, object, Heap, Part, property, element, entry, member, below, cause}
 use Rattle.numeral.specs.Digits.{index_of}
-use Rattle.formed.specs.Formed.{Formed, ValueFormed, KeyFormed, KeyBefore, Pairwise, PropertyFormed, PropertyBefore, ElementFormed}
+use Rattle.formed.specs.Formed.{ValueFormed, KeyFormed, KeyBefore, Pairwise, PropertyFormed, PropertyBefore, ElementFormed}
 use Rattle.script.specs.Syntax as syntax
 use Rattle.script.specs.Syntax.{Expr, form, circular, Items, item, keyed}
 use Rattle.planner.specs.Visits.{refs, refs_of, values_in, edges_of, mem}
@@ -28,6 +28,7 @@ use Rattle.counts.proofs.Within.{within_append}
 use Rattle.expressions.proofs.Keys.{Kept, Behind, b_end, b_key, with_key_end}
 use Rattle.expressions.proofs.Steps.{Ready, Step, step_nil, step_then, step_good, step_ready, occ-++}
 use Rattle.expressions.proofs.Values.{Fresh, Held, NamesGood, PlacesGood, value_good}
+use Rattle.effects.specs.Bounded.{Bounded}
 
 pub behind_snoc : (j k : Key) (w : Val) (ss : List Slot) → KeyBefore k j → Kept k → Behind j ss → Behind j (ss ++ (stores.keyed (key_text k) w ∷ []))
 behind_snoc j k w [] b x b_end = b_key k b x b_end
@@ -64,7 +65,7 @@ pub all_behind_snoc : (k : Key) (v : Value) (w : Val) (ss : List Slot) (ps : Lis
 all_behind_snoc k v w ss [] x b a = tt
 all_behind_snoc k v w ss (p ∷ ps) x b a = (λ j u e. behind_snoc j k w ss (b.0 k j v u refl e) x (a.0 j u e), all_behind_snoc k v w ss ps x b.1 a.1)
 
-module _ (h : Heap) (f : Formed h) (order : List ℕ) (ad : Adequate h order) (by_name : NamesGood h order) (n : ℕ) (by_place : PlacesGood h order n) (x T t : ℕ) (ls : List Late) where
+module _ (h : Heap) (f : Bounded h) (order : List ℕ) (ad : Adequate h order) (by_name : NamesGood h order) (n : ℕ) (by_place : PlacesGood h order n) (x T t : ℕ) (ls : List Late) where
   -- references that are ready are held
   abbrev pub AllHeld : List ℕ → Type 0
   AllHeld js = (j : ℕ) → mem j js ≡ true → ready_before h order T (object j) ≡ true → Held h order n t j

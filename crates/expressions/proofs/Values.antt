@@ -3,7 +3,7 @@ use Rattle.std.proofs.Common.{◌≡◌, ℕ, ◌+◌, ◌<◌, ◌≤◌, Bool,
 use Rattle.std.proofs.lemmas.Bool.{cases_Bool, cond-true, cond-false}
 use Rattle.dump.specs.Heaps as heaps
 use Rattle.dump.specs.Heaps.{Value, object, Heap}
-use Rattle.formed.specs.Formed.{Formed, ValueFormed}
+use Rattle.formed.specs.Formed.{ValueFormed}
 use Rattle.script.specs.Syntax as syntax
 use Rattle.script.specs.Syntax.{Expr, form, circular}
 use Rattle.planner.specs.Visits.{refs, mem}
@@ -22,6 +22,7 @@ use Rattle.visits.proofs.Lists.{mem_head}
 use Rattle.counts.proofs.Within.{within_named, within_unnamed}
 use Rattle.expressions.proofs.Plain.{grown_nil, double_alike, whole_alike}
 use Rattle.expressions.proofs.Steps.{Ready, Step, step_nil}
+use Rattle.effects.specs.Bounded.{Bounded}
 
 -- no object is made that is there
 abbrev pub Fresh : Pairing → (ℕ → ℕ) → Type 0
@@ -52,7 +53,7 @@ module _ (h : Heap) (order : List ℕ) where
       (j : ℕ) → mem j order ≡ true → has_name h order j ≡ false → pos h order j < n → (own : Pairing) (t : ℕ) (s : State) → Ready h order own t s → pos h order j ≤ t → Fresh own (expr_makes h order j)
       → Good h order own s (get_or (built h order) (pos h order j) (form circular)) (object j) (expr_makes h order j)
 
-  module _ (f : Formed h) (ad : Adequate h order) (by_name : NamesGood) (n : ℕ) (by_place : PlacesGood n) (own : Pairing) (t : ℕ) (s : State) (r : Ready h order own t s) where
+  module _ (f : Bounded h) (ad : Adequate h order) (by_name : NamesGood) (n : ℕ) (by_place : PlacesGood n) (own : Pairing) (t : ℕ) (s : State) (r : Ready h order own t s) where
     object_good : (j : ℕ) → Held n t j → Fresh own (λ y. count y (within h order (j ∷ []))) → Good h order own s (value_expr h order (built h order) (object j)) (object j) (λ y. count y (within h order (j ∷ [])))
     object_good j x fresh = ⊎_elim
         (λ (e : has_name h order j ≡ true).

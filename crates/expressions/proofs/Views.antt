@@ -5,7 +5,7 @@ use Rattle.dump.specs.declared.kinds.ViewKind.{ViewKind}
 use Rattle.dump.specs.Heaps as heaps
 use Rattle.dump.specs.Heaps.{below, object, Heap}
 use Rattle.dump.specs.Kinds.{width}
-use Rattle.formed.specs.Formed.{ViewFormed, Formed}
+use Rattle.formed.specs.Formed.{ViewFormed}
 use Rattle.script.specs.Syntax.{Expr, form, circular, new_typed, typed_part, item, none}
 use Rattle.planner.specs.Visits.{object_at, mem}
 use Rattle.planner.specs.Names.{count, is_view, view_in, kind_needs_name, pos, turns, uses, inlines, covers, backing, backed, slot, has_name}
@@ -30,6 +30,7 @@ use Rattle.expressions.proofs.Exprs.{content, view_expr_lem, inlined_expr, named
 use Rattle.expressions.proofs.Backing.{covering_good}
 use Rattle.expressions.proofs.Over.{recount, view_over}
 use Rattle.expressions.proofs.Parts.{part_good, sub_good}
+use Rattle.effects.specs.Bounded.{Bounded}
 
 -- a resizable buffer always has a name
 resizable_named : (h : Heap) (order : List ℕ) (b : ℕ) (bytes : List ℕ) (m : ℕ) → (object_at h b).kind ≡ heaps.buffer bytes (Some m) → has_name h order b ≡ true
@@ -48,7 +49,7 @@ resizable_counts : (k : ViewKind) (offset n size m : ℕ) (tracking : Bool) → 
 resizable_counts k offset n size m true = tracks refl refl
 resizable_counts k offset n size m false = given refl
 
-module _ (h : Heap) (f : Formed h) (order : List ℕ) (ad : Adequate h order) (x b : ℕ) (k : ViewKind) (offset n : ℕ) (tracking : Bool) (bytes : List ℕ) (maximum : Option ℕ)
+module _ (h : Heap) (f : Bounded h) (order : List ℕ) (ad : Adequate h order) (x b : ℕ) (k : ViewKind) (offset n : ℕ) (tracking : Bool) (bytes : List ℕ) (maximum : Option ℕ)
     (viewed : (object_at h x).kind ≡ heaps.view k offset n tracking) (on : (object_at h x).parts ≡ below b ∷ []) (is_buffer : (object_at h b).kind ≡ heaps.buffer bytes maximum) (here : mem x order ≡ true) where
   -- it writes its buffer
   view_makes : (y : ℕ) → expr_makes h order x y ≡ count y (within h order (b ∷ [])) + one y x
@@ -68,7 +69,7 @@ module _ (h : Heap) (f : Formed h) (order : List ℕ) (ad : Adequate h order) (x
       let v = view_makes y in
       omega arith
 
-module _ (h : Heap) (f : Formed h) (order : List ℕ) (ad : Adequate h order) (own : Pairing) (left : ℕ → List Late) (s : State) (t : ℕ) (names : Names h order own t s.names) (store : Store h own left own s.objects) where
+module _ (h : Heap) (f : Bounded h) (order : List ℕ) (ad : Adequate h order) (own : Pairing) (left : ℕ → List Late) (s : State) (t : ℕ) (names : Names h order own t s.names) (store : Store h own left own s.objects) where
   abbrev Evaluates : ℕ → Expr → Type 0
   Evaluates x e = Good h order own s e (object x) (expr_makes h order x)
 

@@ -6,7 +6,7 @@ use Rattle.dump.specs.Heaps.{Numeral}
 use Rattle.numeral.specs.Words.{same_units}
 use Rattle.formed.specs.Formed as formed
 use Rattle.formed.specs.Formed.{Pairwise}
-use Rattle.formed.proofs.Heaps as heaps
+use Rattle.faithful.proofs.Short.{bounded}
 use Rattle.speller.specs.Spelling.{Lawful}
 use Rattle.effects.proofs.Options.{none_some, some_is}
 use Rattle.numeral.proofs.Laws.{same_units_lem}
@@ -56,5 +56,5 @@ lawful ns l = record { distinct = distinct ns l.1; shaped = shaped ns l.0 }
 
 pub own_numerals_faithful : OwnNumeralsFaithful
 own_numerals_faithful b h f p bytes v e =
-    let w = heaps.every b h bytes v in
-    faithful h (numeral_in h.numerals) (reading_in h.numerals) f p w (lawful h.numerals w.numerals) (inverse h.numerals w.numerals) e
+    let w = bounded b h bytes v in
+    faithful h (numeral_in h.numerals) (reading_in h.numerals) f p w (lawful h.numerals w.formed.numerals) (inverse h.numerals w.formed.numerals) e

@@ -1,3 +1,4 @@
+pub mod Short
 pub mod Traces
 pub mod Scripts
 pub mod Lines

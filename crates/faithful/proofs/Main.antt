@@ -3,8 +3,7 @@ use Rattle.std.proofs.Common.{◌≡◌, ℕ, cond, List, Ok, Err, Option, Resul
 use Rattle.dump.specs.declared.refusal.Refusal.{Refusal}
 use Rattle.dump.specs.Rules.{and_then}
 use Rattle.dump.specs.Heaps.{Heap}
-use Rattle.formed.specs.Formed.{Formed}
-use Rattle.formed.proofs.Heaps as heaps
+use Rattle.faithful.proofs.Short.{bounded}
 use Rattle.speller.specs.Spelling.{Lawful}
 use Rattle.planner.specs.Visits.{order}
 use Rattle.planner.specs.Lines.{Format, Plan, planned, spelled_all, not_deep, stmts, wrapped}
@@ -12,8 +11,8 @@ use Rattle.places.proofs.Orders.{adequate}
 use Rattle.readables.proofs.Readables.{readables}
 use Rattle.faithful.proofs.Lines.{lines_do}
 use Rattle.simulation.proofs.Last.{whole}
-use Rattle.traces.specs.Theorem.{Inverse, Faithful}
-use Rattle.faithful.specs.Accepted.{FaithfulAt, AcceptedFaithful}
+use Rattle.traces.specs.Theorem.{Inverse}
+use Rattle.faithful.specs.Accepted.{FaithfulAt, BoundedFaithful, AcceptedFaithful}
 use Rattle.faithful.proofs.Scripts.{faithful_lines}
 
 -- what comes of two steps, if something does
@@ -35,7 +34,7 @@ plan_is numeral h f p e =
     ok : {q : Plan} → ◌≡◌ {A = Result Plan Refusal} (Ok q) (Ok p) → p ≡ q
     ok d = cc
 
-pub faithful : Faithful
+pub faithful : BoundedFaithful
 faithful h numeral reading f p formed lawful inverse e =
     let q = plan_is numeral h f p e in
     let ad = adequate h formed in
@@ -46,4 +45,4 @@ faithful h numeral reading f p formed lawful inverse e =
     w.ran w.val w.runs w.result w.same)
 
 pub accepted_faithful : AcceptedFaithful
-accepted_faithful b h numeral reading f p bytes v lawful inverse e = faithful h numeral reading f p (heaps.every b h bytes v) lawful inverse e
+accepted_faithful b h numeral reading f p bytes v lawful inverse e = faithful h numeral reading f p (bounded b h bytes v) lawful inverse e

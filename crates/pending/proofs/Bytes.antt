@@ -6,7 +6,7 @@ use Rattle.dump.specs.declared.kinds.ViewKind.TheVariants.{Int8Array, Uint8Array
 use Rattle.dump.specs.Heaps as heaps
 use Rattle.dump.specs.Heaps.{Value, Key, Kind, boolean_object, number_object, bigint_object, string_object, plain, sparse, dense, map, set, Part, Heap}
 use Rattle.dump.specs.Kinds.{width}
-use Rattle.formed.specs.Formed.{PartsFormed, Formed}
+use Rattle.formed.specs.Formed.{PartsFormed}
 use Rattle.script.specs.Texts.{numbers, listing}
 use Rattle.planner.specs.Visits.{object_at}
 use Rattle.planner.specs.Names.{buffer_in, slot, data_kind}
@@ -21,6 +21,7 @@ use Rattle.effects.specs.Effects.{grown, listed, filled, filled_by}
 use Rattle.rebuilds.specs.Pending.{In, Bytes, Pends, Pending}
 use Rattle.pending.proofs.Lates.{not_task, task_of}
 use Rattle.pending.proofs.Done.{object_formed}
+use Rattle.effects.specs.Bounded.{Bounded}
 
 -- a kind of bytes is listed as numbers
 pub record Listed (k : ViewKind) : Type 0 where
@@ -141,7 +142,7 @@ module _ (own : Pairing) (o : ℕ) (K L : List Late) (l : Late) (p : ℕ) (k : V
   fills_mended h order t n (heaps.error e message stack) ps sh ss f i r s at = let q = task_of h order o t l (heaps.error e message stack) ps i in not_task l.task (sets q.0 q.1) (fills k) q.2 task (λ z. omega arith)
 
 -- bytes filled in: `new K(v).set([..])`
-pub fills_done : (h : Heap) (order : List ℕ) (own : Pairing) (o : ℕ) (K L : List Late) (l : Late) (x : Obj) (k : ViewKind) → Formed h → o < length h.objects → In l (lates h order o) →
+pub fills_done : (h : Heap) (order : List ℕ) (own : Pairing) (o : ℕ) (K L : List Late) (l : Late) (x : Obj) (k : ViewKind) → Bounded h → o < length h.objects → In l (lates h order o) →
     Pending h own o (K ++ (l ∷ L)) x → l.task ≡ fills k → (p : ℕ) (s : State) → nth s.objects p ≡ Some x →
     (junk : List Obj) × (u : Obj) × (length junk ≡ 2) × (filled_by (listing k) p (ref p) k (bytes_of h order (buffer_in (object_at h o).kind)) s ≡ Some (change p u (grown s junk))) × Pending h own o (K ++ L) u
 fills_done h order own o K L l x k f lt i r task p s at =

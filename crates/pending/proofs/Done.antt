@@ -5,15 +5,16 @@ use Rattle.std.proofs.ByRecursion.{All-weaker, All-get_or}
 use Rattle.dump.specs.declared.kinds.ErrorName.{ErrorName}
 use Rattle.dump.specs.Heaps as heaps
 use Rattle.dump.specs.Heaps.{Text, Value, Kind, boolean_object, number_object, bigint_object, string_object, plain, sparse, dense, map, set, Part, element, Heap, nobody}
-use Rattle.formed.specs.Formed.{PropertyFormed, EntryFormed, MemberFormed, PartsFormed, ObjectFormed, Formed}
+use Rattle.formed.specs.Formed.{PropertyFormed, EntryFormed, MemberFormed, PartsFormed, ObjectFormed}
 use Rattle.planner.specs.Visits.{object_at}
 use Rattle.evaluator.specs.Stores.{Val, Shape, buffer, error, Slot, keyed, Obj}
 use Rattle.evaluator.specs.Isomorphic.{Pairing, Alike, AlikeKind, AlikeParts, AlikeObject, AllAlike}
 use Rattle.rebuilds.specs.Pending.{a_nil, a_cons, Properties, p_end, p_same, p_waits, Elements, e_end, e_hole, e_same, e_waits, Dense, Bytes, Failure, Pends, Pending, Store, occ}
 use Rattle.pending.proofs.Fronts.{Added, property_added, entry_added, member_added, parts-++, parts_any, front_done}
+use Rattle.effects.specs.Bounded.{Bounded}
 
-pub object_formed : (h : Heap) (o : ℕ) → Formed h → o < length h.objects → ObjectFormed h (object_at h o)
-object_formed h o f i = All-get_or (ObjectFormed h) h.objects o nobody i f.objects
+pub object_formed : (h : Heap) (o : ℕ) → Bounded h → o < length h.objects → ObjectFormed h (object_at h o)
+object_formed h o f i = All-get_or (ObjectFormed h) h.objects o nobody i f.formed.objects
 
 -- an element with its slot; nothing is alike to a hole
 pub element_slot : (own : Pairing) (i : ℕ) (v : Value) (w : Val) (ps : List Part) (ss : List Slot) → Alike own v w → AlikeParts own (suc i) ps ss → AlikeParts own i (element v ∷ ps) (keyed (decimal i) w ∷ ss)
@@ -69,14 +70,14 @@ module _ (own : Pairing) (o : ℕ) where
   pends_done h n (heaps.view k offset m tracking) ps sh ss f a = a
   pends_done h n (heaps.error e message stack) ps sh ss f a = failure_done e message stack ps sh ss a
 
-pub done : (h : Heap) (own : Pairing) (o : ℕ) (x : Obj) → Formed h → o < length h.objects → Pending h own o [] x → AlikeObject own (object_at h o) x
+pub done : (h : Heap) (own : Pairing) (o : ℕ) (x : Obj) → Bounded h → o < length h.objects → Pending h own o [] x → AlikeObject own (object_at h o) x
 done h own o x f i a = pends_done own o h (length h.objects) (object_at h o).kind (object_at h o).parts x.shape x.slots (object_formed h o f i).1 a
 
-all_alike_from : (h : Heap) (own : Pairing) {ps : Pairing} {xs : List Obj} → Formed h → ((y : ℕ) → 1 ≤ occ y ps → y < length h.objects) → Store h own (λ o. []) ps xs → AllAlike h own ps xs
+all_alike_from : (h : Heap) (own : Pairing) {ps : Pairing} {xs : List Obj} → Bounded h → ((y : ℕ) → 1 ≤ occ y ps → y < length h.objects) → Store h own (λ o. []) ps xs → AllAlike h own ps xs
 all_alike_from h own f n a_nil = tt
 all_alike_from h own f n (a_cons {a = None} r t) = all_alike_from h own f n t
 all_alike_from h own f n (a_cons {a = Some o} {b = x} r t) =
     (done h own o x f (n o (let s = eq-eqb o o refl in grind arith)) r, all_alike_from h own f (λ y m. n y (omega arith)) t)
 
-pub all_alike : (h : Heap) (own : Pairing) (xs : List Obj) → Formed h → ((y : ℕ) → 1 ≤ occ y own → y < length h.objects) → Store h own (λ o. []) own xs → AllAlike h own own xs
+pub all_alike : (h : Heap) (own : Pairing) (xs : List Obj) → Bounded h → ((y : ℕ) → 1 ≤ occ y own → y < length h.objects) → Store h own (λ o. []) own xs → AllAlike h own own xs
 all_alike h own xs f n t = all_alike_from h own f n t

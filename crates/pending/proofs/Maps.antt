@@ -5,7 +5,7 @@ use Rattle.std.proofs.ByRecursion.{All-weaker}
 use Rattle.std.proofs.lemmas.Bool.{or_from, cond-false}
 use Rattle.dump.specs.Heaps as heaps
 use Rattle.dump.specs.Heaps.{Value, Kind, boolean_object, number_object, bigint_object, string_object, plain, sparse, dense, map, set, Part, property, element, entry, member, below, cause, Heap}
-use Rattle.formed.specs.Formed.{Pairwise, ValueFormed, Kept, EntryFormed, MemberFormed, EntryApart, MemberApart, PartsFormed, Formed}
+use Rattle.formed.specs.Formed.{Pairwise, ValueFormed, Kept, EntryFormed, MemberFormed, EntryApart, MemberApart, PartsFormed}
 use Rattle.formed.proofs.SameValues.{same_value_sym}
 use Rattle.planner.specs.Visits.{object_at}
 use Rattle.planner.specs.Names.{slot}
@@ -19,6 +19,7 @@ use Rattle.pending.proofs.Keys.{keys_apart, kept_plus}
 use Rattle.pending.proofs.Lates.{not_task, task_of}
 use Rattle.pending.proofs.Fronts.{Adds, Added, entry_added, member_added, Next, front_next, next_added}
 use Rattle.pending.proofs.Done.{object_formed}
+use Rattle.effects.specs.Bounded.{Bounded}
 
 -- a key that differs from those of all entries, and a member from all members
 module _ (own : Pairing) (n : ℕ) (a : Value) (w : Val) (f : ValueFormed n a) (same : Alike own a w) where
@@ -194,14 +195,14 @@ module _ (own : Pairing) (o : ℕ) (K L : List Late) (l : Late) where
     adds_mended h order t n (heaps.error e message stack) ps sh ss f i none r = let q = task_of h order o t l (heaps.error e message stack) ps i in not_task l.task (sets q.0 q.1) _ q.2 task (λ z. omega arith)
 
 -- an entry put: `v.set(a, b)`
-pub puts_done : (h : Heap) (order : List ℕ) (own : Pairing) (o : ℕ) (K L : List Late) (l : Late) (x : Obj) (a b : Value) (wa wb : Val) → Formed h → o < length h.objects → In l (lates h order o) →
+pub puts_done : (h : Heap) (order : List ℕ) (own : Pairing) (o : ℕ) (K L : List Late) (l : Late) (x : Obj) (a b : Value) (wa wb : Val) → Bounded h → o < length h.objects → In l (lates h order o) →
     (l.ordered ≡ true → ordered_tasks K ≡ []) → Pending h own o (K ++ (l ∷ L)) x → l.task ≡ puts a b → Alike own a wa → Alike own b wb →
     (u : Obj) × ((p : ℕ) (s : State) → set_pair p x.shape x.slots (wa ∷ wb ∷ []) s ≡ made (ref p) (change p u s)) × Pending h own o (K ++ L) u
 puts_done h order own o K L l x a b wa wb f lt i none r task same same' =
     puts_mended own o K L l a b wa wb task same same' h order (slot h order o) (length h.objects) (object_at h o).kind (object_at h o).parts x.shape x.slots (object_formed h o f lt).1 i none r
 
 -- a member added: `v.add(a)`
-pub adds_done : (h : Heap) (order : List ℕ) (own : Pairing) (o : ℕ) (K L : List Late) (l : Late) (x : Obj) (a : Value) (w : Val) → Formed h → o < length h.objects → In l (lates h order o) →
+pub adds_done : (h : Heap) (order : List ℕ) (own : Pairing) (o : ℕ) (K L : List Late) (l : Late) (x : Obj) (a : Value) (w : Val) → Bounded h → o < length h.objects → In l (lates h order o) →
     (l.ordered ≡ true → ordered_tasks K ≡ []) → Pending h own o (K ++ (l ∷ L)) x → l.task ≡ adds a → Alike own a w →
     (u : Obj) × ((p : ℕ) (s : State) → add_one p x.shape x.slots (w ∷ []) s ≡ made (ref p) (change p u s)) × Pending h own o (K ++ L) u
 adds_done h order own o K L l x a w f lt i none r task same =

@@ -7,7 +7,7 @@ use Rattle.dump.specs.Heaps as heaps
 use Rattle.dump.specs.Heaps.{Text, Value, Key, index, name, Kind, boolean_object, number_object, bigint_object, string_object, plain, sparse, dense, map, set, Part, property, element, entry, member, below, cause, Heap}
 use Rattle.numeral.specs.Words.{same_units}
 use Rattle.formed.specs.Formed as formed
-use Rattle.formed.specs.Formed.{KeyFormed, PropertyFormed, ElementFormed, KindFormed, PartsFormed, ObjectFormed, Formed}
+use Rattle.formed.specs.Formed.{KeyFormed, PropertyFormed, ElementFormed, KindFormed, PartsFormed, ObjectFormed}
 use Rattle.planner.specs.Visits.{object_at}
 use Rattle.planner.specs.Names.{slot}
 use Rattle.planner.specs.Lates.{sets, puts, adds, fills, Late, late_properties, late_elements, late_causes, late_members, lates_by, lates}
@@ -27,6 +27,7 @@ use Rattle.pending.proofs.Properties.{plain_set, array_set}
 use Rattle.pending.proofs.Elements.{elements_waits, elements_lack, has_element, set_elements}
 use Rattle.pending.proofs.Done.{object_formed}
 use Rattle.effects.specs.Plans.{stack_text}
+use Rattle.effects.specs.Bounded.{Bounded}
 
 -- the one part of a short list
 pub in_single : {A : Type 0} {a : A} (xs : List A) → length xs ≤ 1 → In a xs → xs ≡ a ∷ []
@@ -234,7 +235,7 @@ module _ (own : Pairing) (o : ℕ) (K L : List Late) (l : Late) (k : Key) (v : V
   sets_mended h order t n (heaps.error e message stack) ps sh ss g f i none r = error_mended h order t n e message stack ps sh ss f i r
 
 -- a key set: `v[k] = w`
-pub sets_done : (h : Heap) (order : List ℕ) (own : Pairing) (o : ℕ) (K L : List Late) (l : Late) (x : Obj) (k : Key) (v : Value) (w : Val) → Formed h → o < length h.objects → In l (lates h order o) →
+pub sets_done : (h : Heap) (order : List ℕ) (own : Pairing) (o : ℕ) (K L : List Late) (l : Late) (x : Obj) (k : Key) (v : Value) (w : Val) → Bounded h → o < length h.objects → In l (lates h order o) →
     (l.ordered ≡ true → ordered_tasks K ≡ []) → Pending h own o (K ++ (l ∷ L)) x → l.task ≡ sets k v → Alike own v w →
     (u : Obj) × (assigned (key_text k) w x.shape x.slots ≡ Some u) × Pending h own o (K ++ L) u
 sets_done h order own o K L l x k v w f lt i none r task a =

@@ -3,7 +3,6 @@ use Rattle.std.proofs.Common.{◌≡◌, ℕ, ◌+◌, ◌*◌, ◌/◌, ◌<◌
 use Rattle.std.proofs.lemmas.List.{get_or_append_left, get_or_push}
 use Rattle.dump.specs.Heaps.{Value, undefined, null, hole, boolean, whole, double, bigint, text, object, Kind, boolean_object, number_object, bigint_object, string_object, regexp, date, plain, sparse, dense, map, set, buffer, view, error, Part, property, element, entry, member, below, cause, Heap}
 use Rattle.dump.specs.Kinds.{width}
-use Rattle.formed.specs.Formed.{Formed}
 use Rattle.script.specs.Syntax as syntax
 use Rattle.script.specs.Syntax.{circular, new_typed, typed_part, braces, brackets, map_group, set_group, error_group, empty_map_form, empty_set_form, Expr, form, group, Items, none, item, keyed, pair}
 use Rattle.planner.specs.Visits.{refs, refs_of, edges_of, edges, object_at, mem}
@@ -14,6 +13,7 @@ use Rattle.visits.proofs.Orders.{place_split}
 use Rattle.rebuilds.specs.Adequate.{Adequate}
 use Rattle.places.proofs.Lates.{refs_one, refs_two, edges_take}
 use Rattle.places.proofs.Names.{child_before, view_edge}
+use Rattle.effects.specs.Bounded.{Bounded}
 
 -- the expression at a place
 abbrev pub at_place : List Expr → ℕ → Expr
@@ -147,7 +147,7 @@ module _ (h : Heap) (order : List ℕ) where
   build_append done [] ys = refl
   build_append done (x ∷ xs) ys = build_append (done ++ (object_expr h order done x ∷ [])) xs ys
 
-module _ (h : Heap) (f : Formed h) (order : List ℕ) (ad : Adequate h order) where
+module _ (h : Heap) (f : Bounded h) (order : List ℕ) (ad : Adequate h order) where
   -- an object's expression looks up only places before its own
   pub object_same : (o : ℕ) (done done' : List Expr) → mem o order ≡ true → ((i : ℕ) → i < pos h order o → at_place done i ≡ at_place done' i) → object_expr h order done o ≡ object_expr h order done' o
   object_same o done done' m same =

@@ -8,7 +8,7 @@ use Rattle.dump.specs.Heaps.{Value, undefined, null, hole, boolean, whole, doubl
 use Rattle.dump.specs.declared.kinds.ViewKind.{ViewKind}
 use Rattle.dump.specs.Kinds.{width}
 use Rattle.dump.specs.Rules.{refuse}
-use Rattle.formed.specs.Formed.{PropertyFormed, ElementFormed, EntryFormed, MemberFormed, CauseFormed, PartsFormed, Formed}
+use Rattle.formed.specs.Formed.{PropertyFormed, ElementFormed, EntryFormed, MemberFormed, CauseFormed, PartsFormed}
 use Rattle.script.specs.Texts.{all_zero}
 use Rattle.script.specs.Syntax.{circular, new_typed, Expr, form, Items, none, item, pair, Stmt, opening, const, last, return}
 use Rattle.planner.specs.Visits.{refs, edges_of, edges, object_at, mem}
@@ -26,6 +26,7 @@ use Rattle.places.proofs.Objects.{view_in_lem, formed_at, view_formed, view_edge
 use Rattle.places.proofs.Names.{not_backed, resizable_not_backing, named_if, edge_buffer}
 use Rattle.places.proofs.Builts.{at_place, build_length, build_keeps, build_append, built_at}
 use Rattle.effects.specs.Plans.{braced}
+use Rattle.effects.specs.Bounded.{Bounded}
 
 -- past the last place both are 0
 pub depth_get_or : (es : List Expr) (i : ℕ) → get_or (lists.map depth es) i 0 ≡ depth (at_place es i)
@@ -248,7 +249,7 @@ module _ (h : Heap) (order : List ℕ) where
             omega arith
         go false i = named_depth o v b bytes (backing h order b) ∙ sym (ap (λ t. 1 + inside (is_same h order (backing h order b) o) t) (named_if h order b i))
 
-module _ (h : Heap) (f : Formed h) (order : List ℕ) (ad : Adequate h order) where
+module _ (h : Heap) (f : Bounded h) (order : List ℕ) (ad : Adequate h order) where
   -- the buffers to which o refers have the depth 1 in `done`
   abbrev Buffers : List Expr → ℕ → Type 0
   Buffers done o = (b : ℕ) (bytes : List ℕ) (maximum : Option ℕ) → mem b (edges h o) ≡ true → (object_at h b).kind ≡ buffer bytes maximum → depth (at_place done (pos h order b)) ≡ 1

@@ -3,7 +3,6 @@ use Rattle.std.proofs.Common.{◌≡◌, ℕ, ◌<◌, ◌≤◌, max, Bool, tru
 use Rattle.std.proofs.lemmas.Bool.{cases_lt, or_cases, both_ways, cond-true, le-leb}
 use Rattle.dump.specs.declared.kinds.ViewKind.{ViewKind}
 use Rattle.dump.specs.Heaps.{Value, undefined, null, hole, boolean, whole, double, bigint, text, object, Heap}
-use Rattle.formed.specs.Formed.{Formed}
 use Rattle.planner.specs.Visits.{refs, mem}
 use Rattle.planner.specs.Names.{pos, slot, has_name}
 use Rattle.planner.specs.Lates.{Task, sets, puts, adds, fills, Late, lates, slots, task_slot, own_due, due}
@@ -15,6 +14,7 @@ use Rattle.rebuilds.specs.Pending.{In, here, there, due_from}
 use Rattle.places.proofs.Ins.{in_nil, in_cons, in_middle}
 use Rattle.places.proofs.Lates.{late_target, late_refs}
 use Rattle.places.proofs.Lines.{bound_at}
+use Rattle.effects.specs.Bounded.{Bounded}
 
 -- the follow-ups without the slots at which they are due
 abbrev pub lates_in : List (ℕ × Late) → List Late
@@ -152,7 +152,7 @@ module _ (h : Heap) (order : List ℕ) where
       let s = slots_le r (r ∷ []) (mem_head r []) n in
       omega arith
 
-module _ (h : Heap) (f : Formed h) (order : List ℕ) (ad : Adequate h order) where
+module _ (h : Heap) (f : Bounded h) (order : List ℕ) (ad : Adequate h order) where
   -- a place at which a name is bound
   abbrev Bound : ℕ → Type 0
   Bound d = (x : ℕ) × (mem x order ≡ true) × (has_name h order x ≡ true) × (slot h order x ≡ d)

@@ -4,7 +4,6 @@ use Rattle.std.proofs.lemmas.Bool.{and_from, or_parts, both_ways, cond-true, ltb
 use Rattle.dump.specs.declared.kinds.ViewKind.{ViewKind}
 use Rattle.dump.specs.Heaps.{Text, Value, undefined, null, hole, boolean, whole, double, bigint, text, object, index, name, Kind, boolean_object, number_object, bigint_object, string_object, regexp, date, plain, sparse, dense, map, set, buffer, view, error, Part, property, element, entry, member, below, cause, Heap}
 use Rattle.script.specs.Texts.{listing, all_zero}
-use Rattle.formed.specs.Formed.{Formed}
 use Rattle.planner.specs.Visits.{refs, refs_of, values_in, edges_of, edges, object_at, mem}
 use Rattle.planner.specs.Names.{kind_needs_name, turns, slot, has_name, ready_before, data_kind}
 use Rattle.planner.specs.Lates.{sets, puts, adds, fills, Late, bytes_kind, late_properties, late_elements, late_members, late_causes, late_bytes, lates_by, lates}
@@ -16,6 +15,7 @@ use Rattle.rebuilds.specs.Pending.{In}
 use Rattle.places.proofs.Ins.{in_nil, in_cons, in_parts}
 use Rattle.places.proofs.Names.{unnamed, child_ready}
 use Rattle.effects.specs.Plans.{stack_text}
+use Rattle.effects.specs.Bounded.{Bounded}
 
 -- a follow-up of o that refers only to these objects
 abbrev pub From : ℕ → List ℕ → Late → Type 0
@@ -245,7 +245,7 @@ module _ (h : Heap) (order : List ℕ) where
   kind_none o t (view k offset count tracking) ps n r = refl
   kind_none o t (error e message stack) ps n r = absurd (both_ways true n refl)
 
-module _ (h : Heap) (f : Formed h) (order : List ℕ) (ad : Adequate h order) where
+module _ (h : Heap) (f : Bounded h) (order : List ℕ) (ad : Adequate h order) where
   -- an object without a name leaves nothing to do
   pub no_lates : (o : ℕ) → mem o order ≡ true → has_name h order o ≡ false → lates h order o ≡ []
   no_lates o m n =

@@ -3,7 +3,6 @@ use Rattle.std.proofs.Common.{◌≡◌, ℕ, Bool, true, false, ◌&&◌, eqb, 
 use borrow.Author.Tests.{eqb-false}
 use Rattle.std.proofs.lemmas.Bool.{and_parts, and_cases, and_from, both_ways}
 use Rattle.dump.specs.Heaps.{Heap}
-use Rattle.formed.specs.Formed.{Formed}
 use Rattle.planner.specs.Visits.{mem}
 use Rattle.planner.specs.Names.{buffer_in, pos, backing, backed, slot, has_name}
 use Rattle.planner.specs.Lines.{target_by, target, has_line}
@@ -11,12 +10,13 @@ use Rattle.visits.proofs.Orders.{place_same}
 use Rattle.rebuilds.specs.Adequate.{Adequate}
 use Rattle.effects.proofs.Options.{cases_option}
 use Rattle.places.proofs.Names.{backs, backs_of, no_buffer, own_slot}
+use Rattle.effects.specs.Bounded.{Bounded}
 
 -- the line at the place of o builds t
 abbrev Line : (h : Heap) (order : List ℕ) (o t : ℕ) → Bool
 Line h order o t = has_name h order t && eqb (slot h order t) (pos h order o)
 
-module _ (h : Heap) (f : Formed h) (order : List ℕ) (ad : Adequate h order) where
+module _ (h : Heap) (f : Bounded h) (order : List ℕ) (ad : Adequate h order) where
   -- a place whose object has no backing view builds that object
   pub target_self : (o : ℕ) → backing h order o ≡ None → target h order o ≡ o
   target_self o e = ap (λ w. target_by h order w o) e

@@ -4,7 +4,6 @@ use Rattle.std.proofs.lemmas.Bool.{and_parts, or_parts, or_left, or_right, both_
 use Rattle.dump.specs.declared.kinds.ViewKind.{ViewKind}
 use Rattle.dump.specs.Heaps.{object, Kind, buffer, view, below, Heap}
 use Rattle.dump.specs.Kinds.{width}
-use Rattle.formed.specs.Formed.{Formed}
 use Rattle.planner.specs.Visits.{edges_of, edges, object_at, mem}
 use Rattle.planner.specs.Names as names
 use Rattle.planner.specs.Names.{first, is_view, ViewContent, BufferContent, view_in, buffer_in, pos, inlines, is_on, spans, covers_buffer, covers, backing, is_same, backed, slot_by, slot, has_name, ready_before}
@@ -13,6 +12,7 @@ use Rattle.rebuilds.specs.Adequate.{Adequate}
 use Rattle.places.proofs.Firsts.{first_some}
 use Rattle.effects.proofs.Options.{none_some, cases_option, is_none, none_if}
 use Rattle.places.proofs.Objects.{view_in_lem, buffer_in_lem, buffer_parts, buffer_edges, view_formed, view_edges, view_group}
+use Rattle.effects.specs.Bounded.{Bounded}
 
 mem_one : (x y : ℕ) → mem x (y ∷ []) ≡ true → x ≡ y
 mem_one x y e = ⊎_elim (λ (a : eqb x y ≡ true). eqb-true x y a) (λ (b : false ≡ true). absurd (both_ways false refl b)) (or_cases (eqb x y) false e)
@@ -131,7 +131,7 @@ module _ (h : Heap) (order : List ℕ) where
       let p = or_parts (not (has_name h order j)) (ltb (slot h order j) t) e in
       (not-false (has_name h order j) p.0, ltb-false (slot h order j) t p.1)
 
-module _ (h : Heap) (f : Formed h) (order : List ℕ) (ad : Adequate h order) where
+module _ (h : Heap) (f : Bounded h) (order : List ℕ) (ad : Adequate h order) where
   -- the buffer of a view comes before it, and its name is bound at its place
   pub record OnBuffer (x b : ℕ) : Type 0 where
     pub member : mem b order ≡ true

@@ -2,7 +2,6 @@
 use Rattle.std.proofs.Common.{◌≡◌, ℕ, ◌≤◌, true, false, [], sym, refl, ap, ◌∙◌, subst, ⊎_elim, arith}
 use Rattle.std.proofs.lemmas.Bool.{both_ways}
 use Rattle.dump.specs.Heaps.{Value, undefined, null, hole, boolean, whole, double, bigint, text, object, Heap}
-use Rattle.formed.specs.Formed.{Formed}
 use Rattle.planner.specs.Visits.{refs, edges, mem, visit, reached, order}
 use Rattle.planner.specs.Names.{place_in}
 use Rattle.visits.specs.Stands.{Reach, at_root, by_edge}
@@ -12,6 +11,7 @@ use Rattle.visits.proofs.Ranges.{formed_range, root_range}
 use Rattle.visits.proofs.Visits.{visit_inside, visit_closed, visit_rooted}
 use Rattle.visits.proofs.Stand.{stands}
 use Rattle.rebuilds.specs.Adequate.{Adequate}
+use Rattle.effects.specs.Bounded.{Bounded}
 
 -- an object without edges reaches only itself
 pub leaf_reach : (h : Heap) (j i : ℕ) → edges h j ≡ [] → Reach h j i → i ≡ j
@@ -36,11 +36,11 @@ none_adequate h n = record {
 object_same : (a b : ℕ) → object a ≡ object b → a ≡ b
 object_same a b e = cc
 
-visit_adequate : (h : Heap) → Formed h → (r : ℕ) → h.root ≡ object r → Adequate h (visit h r)
+visit_adequate : (h : Heap) → Bounded h → (r : ℕ) → h.root ≡ object r → Adequate h (visit h r)
 visit_adequate h f r e =
-    let wf = formed_range h f in
-    let lt = root_range h f r e in
-    let s = stands h r f e in
+    let wf = formed_range h f.formed in
+    let lt = root_range h f.formed r e in
+    let s = stands h r f.formed e in
     record {
       once = s.once;
       inside = visit_inside h r wf lt;
@@ -55,7 +55,7 @@ visit_adequate h f r e =
       single = s.single;
     }
 
-pub adequate : (h : Heap) → Formed h → Adequate h (order h)
+pub adequate : (h : Heap) → Bounded h → Adequate h (order h)
 adequate h f = by_root h.root refl
   where
     by_root : (v : Value) → h.root ≡ v → Adequate h (reached h (refs v))

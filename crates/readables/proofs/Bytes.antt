@@ -9,7 +9,7 @@ use Rattle.dump.specs.Kinds.{width}
 use Rattle.dump.specs.Heaps as heaps
 use Rattle.dump.specs.Heaps.{Kind, buffer, view, Part, below, nobody, Heap}
 use Rattle.formed.specs.Formed.{KindFormed, PartsFormed, ViewFormed}
-use Rattle.readables.specs.Bounded.{KindShort, ObjectShort, Bounded}
+use Rattle.effects.specs.Bounded.{KindShort, ObjectShort, Bounded}
 use Rattle.script.specs.Texts.{listing}
 use Rattle.evaluator.specs.Makes.{is_typed}
 use Rattle.planner.specs.Visits.{edges_of, edges, object_at, mem}
@@ -141,10 +141,10 @@ module _ (h : Heap) (f : Bounded h) where
   short_at o = all_rows ObjectShort h.objects o nobody tt f.short
 
   pub bytes_formed : (b : ℕ) (bytes : List ℕ) (maximum : Option ℕ) → (object_at h b).kind ≡ buffer bytes maximum → BytesFormed bytes
-  bytes_formed b bytes maximum e = let g : KindFormed (buffer bytes maximum) = subst KindFormed e (formed_at h f.formed b).0 in (g.0, subst KindShort e (short_at b))
+  bytes_formed b bytes maximum e = let g : KindFormed (buffer bytes maximum) = subst KindFormed e (formed_at h f b).0 in (g.0, subst KindShort e (short_at b))
 
   pub view_formed : (x : ℕ) (k : ViewKind) (offset count : ℕ) (tracking : Bool) → (object_at h x).kind ≡ view k offset count tracking → ViewFormed h k offset count tracking (object_at h x).parts
-  view_formed x k offset count tracking e = subst (λ kind. PartsFormed h (length h.objects) kind (object_at h x).parts) e (formed_at h f.formed x).1
+  view_formed x k offset count tracking e = subst (λ kind. PartsFormed h (length h.objects) kind (object_at h x).parts) e (formed_at h f x).1
 
   -- the one edge of a view goes to its buffer
   edge_below : (b on : ℕ) (ps : List Part) → ps ≡ below on ∷ [] → mem b (edges_of ps) ≡ true → b ≡ on

@@ -8,7 +8,7 @@ use Rattle.dump.specs.Kinds.{width}
 use Rattle.dump.specs.Heaps as heaps
 use Rattle.dump.specs.Heaps.{Value, Kind, buffer, view, Part, property, element, entry, member, below, cause, Heap}
 use Rattle.formed.specs.Formed.{MaximumFits, MemberFormed, KindFormed, PartsFormed}
-use Rattle.readables.specs.Bounded.{Bounded}
+use Rattle.effects.specs.Bounded.{Bounded}
 use Rattle.script.specs.Syntax.{named, buffer_of_named, circular, buffer_form, data_buffer, new_typed, typed_part, subarray, view_group, Expr, form, Items, none, item, pair}
 use Rattle.script.specs.Texts.{all_zero}
 use Rattle.planner.specs.Visits.{edges_of, edges, object_at}
@@ -48,7 +48,7 @@ module _ (numeral : ℕ → Option (List ℕ)) where
     pub name_readable : (o : ℕ) → ExprReadable numeral (name_expr h order o)
     name_readable o =
         cond_both (is_some (backing h order o)) (form (buffer_of_named (slot h order o))) (form (named (slot h order o))) (ExprReadable numeral)
-        (λ e. slot_small h order f.formed a o) (λ e. slot_small h order f.formed a o)
+        (λ e. slot_small h order f a o) (λ e. slot_small h order f a o)
 
     -- a buffer's backing view covers it
     backing_ok : (b : ℕ) → FirstOk (covers h order b) (backing h order b)
@@ -153,7 +153,7 @@ module _ (numeral : ℕ → Option (List ℕ)) where
               (subarray_of (slot h order w) (v.offset / width v.kind) (v.offset / width v.kind + v.count) to_end_lem)
               (view_on v.kind v.offset (cond to_end_lem None (Some v.count)) (item (name_expr h order b) none))
               (ExprReadable numeral)
-              (λ _. subarray_readable (slot h order w) (v.offset / width v.kind) (v.offset / width v.kind + v.count) to_end_lem (slot_small h order f.formed a w) start_small end_small)
+              (λ _. subarray_readable (slot h order w) (v.offset / width v.kind) (v.offset / width v.kind + v.count) to_end_lem (slot_small h order f a w) start_small end_small)
               (λ _. on_readable to_end_lem (name_expr h order b) (name_readable b)))
 
           inlined_readable : ExprReadable numeral (on_inlined h order done o v b bytes)
@@ -206,7 +206,7 @@ module _ (numeral : ℕ → Option (List ℕ)) where
       -- the expression of an object, if those before it are readable
       pub object_readable : HeapSpelled numeral h → (o : ℕ) → ExprReadable numeral (object_expr h order done o)
       object_readable s o =
-          kind_readable o (slot h order o) (length h.objects) (object_at h o).kind (object_at h o).parts refl (formed_at h f.formed o).0 (formed_at h f.formed o).1 (kind_at_lem numeral h f.formed s o) (parts_at numeral h f.formed s o)
+          kind_readable o (slot h order o) (length h.objects) (object_at h o).kind (object_at h o).parts refl (formed_at h f o).0 (formed_at h f o).1 (kind_at_lem numeral h f s o) (parts_at numeral h f s o)
 
     build_readable : HeapSpelled numeral h → (done : List Expr) (os : List ℕ) → All (ExprReadable numeral) done → All (ExprReadable numeral) (build_all h order done os)
     build_readable s done [] r = r

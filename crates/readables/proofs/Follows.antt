@@ -7,7 +7,7 @@ use Rattle.std.proofs.lemmas.Bool.{both_ways, cond_both}
 use Rattle.dump.specs.Heaps as heaps
 use Rattle.dump.specs.Heaps.{Text, Value, index, name, Kind, buffer, Part, property, element, entry, member, below, cause, Heap}
 use Rattle.formed.specs.Formed.{Units, MaybeUnits, KindFormed}
-use Rattle.readables.specs.Bounded.{Bounded}
+use Rattle.effects.specs.Bounded.{Bounded}
 use Rattle.script.specs.Syntax.{Stmt, assign, put, add, fill}
 use Rattle.script.specs.Texts.{listing, all_zero}
 use Rattle.planner.specs.Visits.{object_at}
@@ -143,7 +143,7 @@ module _ (numeral : ℕ → Option (List ℕ)) (h : Heap) (order : List ℕ) whe
         (causes_late o t ps w) ((stack_units, stack_writable stack g.1), tt)
 
     pub lates_writable : HeapSpelled numeral h → (o : ℕ) → LatesWritable (lates h order o)
-    lates_writable s o = kind_late o (slot h order o) (object_at h o).kind (object_at h o).parts refl (formed_at h f.formed o).0 (parts_at numeral h f.formed s o)
+    lates_writable s o = kind_late o (slot h order o) (object_at h o).kind (object_at h o).parts refl (formed_at h f o).0 (parts_at numeral h f s o)
 
   -- when a follow-up is due does not change it
   abbrev pub DueWritable : ℕ × Late → Type 0
@@ -167,10 +167,10 @@ module _ (numeral : ℕ → Option (List ℕ)) (h : Heap) (order : List ℕ) whe
     expr_readable v w = value_readable numeral h order f a (built h order) (built_readable numeral h order f a s) v w
 
     task_readable : (o : ℕ) (t : Task) → TaskWritable o t → StmtReadable numeral (stmt_by o t)
-    task_readable o (sets k v) w = (slot_small h order f.formed a o, w.0, expr_readable v w.1)
-    task_readable o (puts k v) w = (slot_small h order f.formed a o, expr_readable k w.0, expr_readable v w.1)
-    task_readable o (adds v) w = (slot_small h order f.formed a o, expr_readable v w)
-    task_readable o (fills k) w = (slot_small h order f.formed a o, w.0, w.1)
+    task_readable o (sets k v) w = (slot_small h order f a o, w.0, expr_readable v w.1)
+    task_readable o (puts k v) w = (slot_small h order f a o, expr_readable k w.0, expr_readable v w.1)
+    task_readable o (adds v) w = (slot_small h order f a o, expr_readable v w)
+    task_readable o (fills k) w = (slot_small h order f a o, w.0, w.1)
 
     pub late_readable : (l : Late) → LateWritable l → StmtReadable numeral (late_stmt h order l)
     late_readable l w = task_readable l.target l.task w

@@ -3,11 +3,11 @@ use Rattle.std.proofs.Common.{◌≡◌, ℕ, zero, suc, ◌+◌, ◌<◌, ◌�
 use borrow.Author.Tests.{eqb-false}
 use Rattle.std.proofs.lemmas.Bool.{cases_Bool, cond_both, or_cases, or_left, or_right, both_ways}
 use Rattle.dump.specs.Heaps.{Heap}
-use Rattle.formed.specs.Formed.{Formed}
 use Rattle.planner.specs.Visits.{mem}
 use Rattle.planner.specs.Names.{place_in, count, pos, backed, slot_by, slot}
 use Rattle.rebuilds.specs.Adequate.{Adequate}
 use Rattle.effects.specs.Readable.{Small}
+use Rattle.effects.specs.Bounded.{Bounded}
 
 -- a list without a number
 abbrev pub without : ℕ → List ℕ → List ℕ
@@ -57,10 +57,10 @@ pub place_length : (xs : List ℕ) (x : ℕ) → place_in xs x ≤ length xs
 place_length [] x = omega arith
 place_length (y ∷ ys) x = let ih = place_length ys x in cond_both (eqb x y) 0 (suc (place_in ys x)) (λ z. z ≤ length (y ∷ ys)) (λ e. omega arith) (λ e. omega arith)
 
-module _ (h : Heap) (order : List ℕ) (f : Formed h) (a : Adequate h order) where
+module _ (h : Heap) (order : List ℕ) (f : Bounded h) (a : Adequate h order) where
   -- at most 4096 objects stand in an order
   pub order_few : length order ≤ 4096
-  order_few = let l = few_below (length h.objects) order a.once a.inside in let m = f.few in omega arith
+  order_few = let l = few_below (length h.objects) order a.once a.inside in let m = f.formed.few in omega arith
 
   pub pos_few : (x : ℕ) → pos h order x ≤ 4096
   pos_few x = let l = place_length order x in let m = order_few in omega arith

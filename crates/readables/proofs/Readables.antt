@@ -4,7 +4,7 @@ use Rattle.std.specs.List.{AllByRecursion as All}
 use Rattle.std.proofs.ByRecursion.{All-append, All-push}
 use Rattle.std.proofs.lemmas.Bool.{cond_both}
 use Rattle.dump.specs.Heaps.{Heap}
-use Rattle.readables.specs.Bounded.{Bounded}
+use Rattle.effects.specs.Bounded.{Bounded}
 use Rattle.script.specs.Syntax.{circular, form, Stmt, opening, const, last, return}
 use Rattle.planner.specs.Names.{pos}
 use Rattle.planner.specs.Builds.{built}
@@ -50,13 +50,13 @@ module _ (h : Heap) (numeral : ℕ → Option (List ℕ)) (order : List ℕ) (f 
       let x = pos h order (target h order o) in
       cond_both (has_line h order o) (const (pos h order o) (get_or (built h order) x (form circular)) ∷ (due_at h order (pos h order o) (all_due h order order) ++ lines_at h order os)) (lines_at h order os) Stmts
       (λ e. (
-        (pos_small h order f.formed a o, done_readable numeral h order f a (built h order) (built_readable numeral h order f a s) x),
+        (pos_small h order f a o, done_readable numeral h order f a (built h order) (built_readable numeral h order f a s) x),
         All-append (StmtReadable numeral) (due_at h order (pos h order o) (all_due h order order)) (lines_at h order os) (due_at_lem (pos h order o) (all_due h order order) (all_due_lem order)) ih,
       ))
       (λ e. ih)
 
   root_readable : ExprReadable numeral (expr_of h order h.root)
-  root_readable = expr_readable numeral h order f a s h.root (root_writable numeral h f.formed s)
+  root_readable = expr_readable numeral h order f a s h.root (root_writable numeral h f s)
 
   all_stmts : (format : Format) → Stmts (stmts h order format)
   all_stmts format =

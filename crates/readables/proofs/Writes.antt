@@ -6,12 +6,13 @@ use Rattle.std.proofs.lemmas.List.{get_or_past}
 use Rattle.std.proofs.lemmas.Bool.{cases_lt}
 use Rattle.dump.specs.Heaps as heaps
 use Rattle.dump.specs.Heaps.{Value, Key, index, name, Kind, Part, entry, Object, nobody, Heap}
-use Rattle.formed.specs.Formed.{ValueFormed, KeyFormed, PropertyFormed, ElementFormed, EntryFormed, MemberFormed, CauseFormed, KindFormed, PartsFormed, ObjectFormed, Formed}
+use Rattle.formed.specs.Formed.{ValueFormed, KeyFormed, PropertyFormed, ElementFormed, EntryFormed, MemberFormed, CauseFormed, KindFormed, PartsFormed, ObjectFormed}
 use Rattle.planner.specs.Visits.{object_at}
 use Rattle.planner.specs.Lines.{value_unspelled, kind_unspelled}
 use Rattle.effects.specs.Readable.{KeyReadable}
 use Rattle.readables.specs.Writable.{Writable, ElementWritable, PartWritable, PartSpelled}
 use Rattle.readables.proofs.Spelled.{spelled, HeapSpelled}
+use Rattle.effects.specs.Bounded.{Bounded}
 
 -- what holds of a row of a list holds of every row, if it holds past the last
 pub all_rows : {X : Type 0} (P : X → Type 0) (xs : List X) (i : ℕ) (d : X) → P d → All P xs → P (get_or xs i d)
@@ -35,8 +36,8 @@ key_readable limit array (index i) l f = omega arith
 key_readable limit array (name t) l f = f.0
 
 -- an object of any number is formed: past the last row it is a plain object without parts
-pub formed_at : (h : Heap) → Formed h → (o : ℕ) → ObjectFormed h (object_at h o)
-formed_at h f o = all_rows (ObjectFormed h) h.objects o nobody (tt, (tt, tt)) f.objects
+pub formed_at : (h : Heap) → Bounded h → (o : ℕ) → ObjectFormed h (object_at h o)
+formed_at h f o = all_rows (ObjectFormed h) h.objects o nobody (tt, (tt, tt)) f.formed.objects
 
 module _ (numeral : ℕ → Option (List ℕ)) where
   -- a formed value whose double is spelled
@@ -113,7 +114,7 @@ module _ (numeral : ℕ → Option (List ℕ)) where
   parts_by_kind h n (heaps.view k offset count tracking) ps g f s = subst (All (PartWritable numeral)) (sym f.part) (tt, tt)
   parts_by_kind h n (heaps.error e message stack) ps g f s = each_part (CauseFormed n) (from_cause n) ps f.1 s
 
-  module _ (h : Heap) (f : Formed h) where
+  module _ (h : Heap) (f : Bounded h) where
     pub parts_at : HeapSpelled numeral h → (o : ℕ) → All (PartWritable numeral) (object_at h o).parts
     parts_at s o =
         let g = formed_at h f o in
@@ -124,4 +125,4 @@ module _ (numeral : ℕ → Option (List ℕ)) where
     kind_at_lem s o = all_rows (λ (x : Object). kind_unspelled numeral x.kind ≡ false) h.objects o nobody refl s.kinds
 
     pub root_writable : HeapSpelled numeral h → Writable numeral h.root
-    root_writable s = writable (length h.objects) h.root f.root s.root
+    root_writable s = writable (length h.objects) h.root f.formed.root s.root

@@ -2,7 +2,7 @@
 use Rattle.std.proofs.Common.{◌≡◌, ℕ, zero, suc, ◌+◌, ◌<◌, ◌≤◌, Bool, true, false, List, [], ◌∷◌, ◌++◌, length, get_or, Some, None, Option, sym, refl, ap, ◌∙◌, subst, arith}
 use Rattle.dump.specs.Heaps as heaps
 use Rattle.dump.specs.Heaps.{object, Heap, Kind, boolean_object, number_object, bigint_object, string_object, regexp, date, plain, sparse, dense, map, set, buffer, view, error, Part}
-use Rattle.formed.specs.Formed.{Formed, KindFormed, PartsFormed}
+use Rattle.formed.specs.Formed.{KindFormed, PartsFormed}
 use Rattle.script.specs.Syntax as syntax
 use Rattle.script.specs.Syntax.{form, circular}
 use Rattle.planner.specs.Visits.{edges, mem, object_at}
@@ -28,8 +28,9 @@ use Rattle.expressions.proofs.Steps.{Ready}
 use Rattle.expressions.proofs.Values.{Fresh, NamesGood, PlacesGood, good_makes}
 use Rattle.expressions.proofs.ByKind.{held, written_is, bare_good, plain_good, sparse_good, dense_good}
 use Rattle.expressions.proofs.Objects.{set_good, map_good, error_good}
+use Rattle.effects.specs.Bounded.{Bounded}
 
-module _ (h : Heap) (f : Formed h) (order : List ℕ) (ad : Adequate h order) where
+module _ (h : Heap) (f : Bounded h) (order : List ℕ) (ad : Adequate h order) where
   pub names_good : NamesGood h order
   names_good x m n own t s r lt = name_good h f order ad own r.left s t r.built.names r.built.store x m n lt
 

@@ -3,7 +3,6 @@ use Rattle.std.proofs.Common.{◌≡◌, ℕ, suc, ◌+◌, ◌<◌, ◌≤◌, 
 use borrow.Author.Tests.{eqb-false, lt-leb}
 use Rattle.std.proofs.lemmas.Bool.{cases_Bool, cases_eq, cond-true, cond-false, both_ways, or_parts, or_from, or_right}
 use Rattle.dump.specs.Heaps.{object, Heap}
-use Rattle.formed.specs.Formed.{Formed}
 use Rattle.script.specs.Syntax.{Stmt}
 use Rattle.planner.specs.Visits.{mem}
 use Rattle.planner.specs.Names.{count, pos, slot, has_name}
@@ -26,6 +25,7 @@ use Rattle.places.proofs.Dues.{due_late, due_own, due_names, due_sorted}
 use Rattle.expressions.proofs.Steps.{occ-++}
 use Rattle.expressions.proofs.Values.{Fresh}
 use Rattle.simulation.proofs.Runs.{Leads, leads_nil, leads_append, leads_cons}
+use Rattle.effects.specs.Bounded.{Bounded}
 
 -- lists of follow-ups with their dues
 
@@ -100,7 +100,7 @@ pub choose : {A : Type 0} (b : Bool) (x x' y y' : A) → (b ≡ true → x ≡ x
 choose true x x' y y' p q = p refl
 choose false x x' y y' p q = q refl
 
-module _ (h : Heap) (f : Formed h) (order : List ℕ) (ad : Adequate h order) (late-runs : LatesRun h order) (t : ℕ) where
+module _ (h : Heap) (f : Bounded h) (order : List ℕ) (ad : Adequate h order) (late-runs : LatesRun h order) (t : ℕ) where
   pub built_left : (own : Pairing) (left left' : ℕ → List Late) (n : ℕ) (s : State) → ((x : ℕ) → left x ≡ left' x) → Built h order own left n s → Built h order own left' n s
   built_left own left left' n s e b = record { store = store_left h own left left' e b.store; names = b.names }
 

@@ -3,7 +3,7 @@ use Rattle.std.proofs.Common.{◌≡◌, ℕ, suc, ◌+◌, ◌<◌, ◌≤◌, 
 use Rattle.std.proofs.lemmas.Bool.{cond-true, cond-false}
 use Rattle.dump.specs.declared.kinds.ViewKind.{ViewKind}
 use Rattle.dump.specs.Heaps.{Key, Value, object, Heap}
-use Rattle.formed.specs.Formed.{Formed, ValueFormed}
+use Rattle.formed.specs.Formed.{ValueFormed}
 use Rattle.script.specs.Texts.{listing}
 use Rattle.planner.specs.Visits.{refs, edges, mem, object_at}
 use Rattle.planner.specs.Names.{count, pos, slot, has_name, backing, backed, buffer_in}
@@ -39,11 +39,12 @@ use Rattle.simulation.proofs.Flushes.{LateDone, LatesRun}
 use Rattle.simulation.proofs.Inside.{counted, inside_within, within_unnamed}
 use Rattle.simulation.proofs.Exprs.{names_good, places_good}
 use Rattle.simulation.proofs.Tasks.{TaskFormed, task_formed}
+use Rattle.effects.specs.Bounded.{Bounded}
 
 no_in : {l : Late} {ls : List Late} → ls ≡ [] → In l ls → ⊥
 no_in {l} e i = elim (subst (λ z. In l z) e i) [ ]
 
-module _ (h : Heap) (f : Formed h) (order : List ℕ) (ad : Adequate h order) where
+module _ (h : Heap) (f : Bounded h) (order : List ℕ) (ad : Adequate h order) where
   module _ (X : ℕ) (m_x : mem X order ≡ true) (n_x : has_name h order X ≡ true) (l : Late) (i : In l (lates h order X)) (t : ℕ) (lt : slot h order X < t)
       (names : (j : ℕ) → mem j (task_refs l.task) ≡ true → has_name h order j ≡ true → slot h order j < t) (own : Pairing) (s : State) (left : ℕ → List Late) (K L : List Late) (b : Built h order own left t s)
       (still : (x : ℕ) → mem x order ≡ true → has_name h order x ≡ false → left x ≡ []) (eq : left X ≡ K ++ (l ∷ L)) (ord : l.ordered ≡ true → ordered_tasks K ≡ []) (fresh : Fresh own (task_makes h order l.task)) where

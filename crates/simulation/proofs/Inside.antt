@@ -3,7 +3,6 @@ use Rattle.std.proofs.Common.{◌≡◌, ℕ, zero, suc, ◌+◌, ◌<◌, ◌�
 use Rattle.std.specs.List.{AllByRecursion as All}
 use Rattle.std.proofs.lemmas.Bool.{cases_Bool, both_ways, or_cases, or_right}
 use Rattle.dump.specs.Heaps.{Heap}
-use Rattle.formed.specs.Formed.{Formed}
 use Rattle.planner.specs.Visits.{edges, mem}
 use Rattle.planner.specs.Names.{count, pos, has_name, backing}
 use Rattle.planner.specs.Lates.{Late}
@@ -13,6 +12,7 @@ use Rattle.visits.proofs.Lists.{mem_head, mem_left, mem_right, count_none}
 use Rattle.visits.proofs.Orders.{place_le}
 use Rattle.places.proofs.Names.{backing_covers, child_before}
 use Rattle.counts.proofs.Within.{makes_at}
+use Rattle.effects.specs.Bounded.{Bounded}
 
 pub counted : (y : ℕ) (xs : List ℕ) → 1 ≤ count y xs → mem y xs ≡ true
 counted y xs le = ⊎_elim (λ m. m) (λ (n : mem y xs ≡ false). absurd (let c = count_none y xs n in omega arith)) (cases_Bool (mem y xs))
@@ -96,7 +96,7 @@ module _ (h : Heap) (order : List ℕ) where
       go false l ih = ih (omega arith)
 
 -- what hangs in a reference without a name has none either
-module _ (h : Heap) (f : Formed h) (order : List ℕ) (ad : Adequate h order) where
+module _ (h : Heap) (f : Bounded h) (order : List ℕ) (ad : Adequate h order) where
   abbrev Unnamed : List ℕ → Type 0
   Unnamed xs = (y : ℕ) → mem y xs ≡ true → has_name h order y ≡ false
 

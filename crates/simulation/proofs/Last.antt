@@ -2,7 +2,6 @@
 use Rattle.std.proofs.Common.{◌≡◌, ℕ, suc, ◌+◌, ◌<◌, ◌≤◌, Bool, true, false, cond, leb, ◌⊎◌, List, [], ◌∷◌, ◌++◌, length, Some, None, Option, sym, refl, ap, ◌∙◌, subst, inl, inr, ⊎_elim, arith, leb-false, leb-true}
 use Rattle.std.proofs.lemmas.Bool.{cases_Bool}
 use Rattle.dump.specs.Heaps.{Heap}
-use Rattle.formed.specs.Formed.{Formed}
 use Rattle.script.specs.Syntax.{Stmt, opening, last, return}
 use Rattle.planner.specs.Visits.{refs, mem}
 use Rattle.planner.specs.Names.{count, pos, slot, has_name}
@@ -35,12 +34,13 @@ use Rattle.simulation.proofs.Exprs.{names_good, places_good, self_good, over_goo
 use Rattle.simulation.proofs.Follows.{lates_run}
 use Rattle.simulation.proofs.Lines.{ExprsGood, Sim, all_lines}
 use Rattle.effects.specs.Plans.{braced}
+use Rattle.effects.specs.Bounded.{Bounded}
 
 from_none : (t : ℕ) (ds : List (ℕ × Late)) → ((d : ℕ) (l : Late) → In (d, l) ds → d < t) → due_from t ds ≡ []
 from_none t [] n = refl
 from_none t (d ∷ ds) n = from_drops t d ds (n d.0 d.1 here) ∙ from_none t ds (λ e l i. n e l (there i))
 
-module _ (h : Heap) (f : Formed h) (order : List ℕ) (ad : Adequate h order) where
+module _ (h : Heap) (f : Bounded h) (order : List ℕ) (ad : Adequate h order) where
   exprs : ExprsGood h f order ad (lates_run h f order ad)
   exprs = record { self = self_good h f order ad; over = over_good h f order ad }
 

@@ -3,7 +3,6 @@ use Rattle.std.proofs.Common.{◌≡◌, ℕ, suc, ◌+◌, ◌<◌, ◌≤◌, 
 use borrow.Author.Tests.{eqb-false}
 use Rattle.std.proofs.lemmas.Bool.{cases_Bool, cases_eq, cond-true, cond-false, both_ways, or_left, or_right, or_cases, and_parts}
 use Rattle.dump.specs.Heaps.{object, Heap}
-use Rattle.formed.specs.Formed.{Formed}
 use Rattle.script.specs.Syntax.{Expr, form, circular, Stmt, const}
 use Rattle.planner.specs.Visits.{mem}
 use Rattle.planner.specs.Names.{count, pos, slot, has_name, backing, backed}
@@ -33,6 +32,7 @@ use Rattle.expressions.proofs.Values.{Fresh}
 use Rattle.simulation.proofs.Runs.{Leads, leads_nil, leads_append, leads_cons}
 use Rattle.simulation.proofs.Flushes.{from_next, LatesRun, is_target, left_by, Flushed, flush}
 use Rattle.simulation.proofs.Inside.{line_inside, due_inside}
+use Rattle.effects.specs.Bounded.{Bounded}
 
 -- where all are due later, all are left
 from_all : (t : ℕ) (ds : List (ℕ × Late)) → ((d : ℕ) (l : Late) → In (d, l) ds → t ≤ d) → due_from t ds ≡ lates_in ds
@@ -55,7 +55,7 @@ lookup_right (bound k w ∷ bs) m n v e = go (eqb n k) e (lookup_right bs m n v)
     go true d ih = absurd (let z : ◌≡◌ {A = ℕ} 0 1 = cc in omega arith)
     go false d ih = ih d
 
-module _ (h : Heap) (f : Formed h) (order : List ℕ) (ad : Adequate h order) (late-runs : LatesRun h order) where
+module _ (h : Heap) (f : Bounded h) (order : List ℕ) (ad : Adequate h order) (late-runs : LatesRun h order) where
   -- the expression of every object that is no backing view evaluates, and that of every backing view with its buffer
   pub record ExprsGood : Type 0 where
     pub self : (x : ℕ) → mem x order ≡ true → backed h order x ≡ None → (own : Pairing) (t : ℕ) (s : State) → Ready h order own t s → pos h order x ≤ t → Fresh own (expr_makes h order x) → Good h order own s (get_or (built h order) (pos h order x) (form circular)) (object x) (expr_makes h order x)

@@ -4,13 +4,14 @@ use Rattle.std.specs.List.{AllByRecursion as All}
 use Rattle.std.proofs.lemmas.Bool.{both_ways}
 use Rattle.dump.specs.Heaps as heaps
 use Rattle.dump.specs.Heaps.{Text, Value, hole, Heap, Kind, boolean_object, number_object, bigint_object, string_object, regexp, date, plain, sparse, dense, map, set, buffer, view, error, Part, property, element, entry, member, below, cause}
-use Rattle.formed.specs.Formed.{Formed, ValueFormed, KindFormed, MaybeUnits, PartsFormed, PropertyFormed, ElementFormed, EntryFormed, MemberFormed, CauseFormed}
+use Rattle.formed.specs.Formed.{ValueFormed, KindFormed, MaybeUnits, PartsFormed, PropertyFormed, ElementFormed, EntryFormed, MemberFormed, CauseFormed}
 use Rattle.planner.specs.Visits.{object_at}
 use Rattle.planner.specs.Names.{ready_before, slot}
 use Rattle.planner.specs.Lates.{Task, sets, puts, adds, fills, Late, late_properties, late_elements, late_members, late_causes, late_bytes, lates_by, lates}
 use Rattle.rebuilds.specs.Pending.{In, here, there}
 use Rattle.places.proofs.Objects.{formed_at}
 use Rattle.effects.specs.Plans.{stack_text}
+use Rattle.effects.specs.Bounded.{Bounded}
 
 abbrev pub TaskFormed : ℕ → Task → Type 0
 TaskFormed n (sets k v) = ValueFormed n v
@@ -133,7 +134,7 @@ in_all n l [] a i = elim i [ ]
 in_all n l (_ ∷ ls) a here = a.0
 in_all n l (_ ∷ ls) a (there i) = in_all n l ls a.1 i
 
-pub task_formed : (h : Heap) (order : List ℕ) → Formed h → (o : ℕ) (l : Late) → In l (lates h order o) → TaskFormed (length h.objects) l.task
+pub task_formed : (h : Heap) (order : List ℕ) → Bounded h → (o : ℕ) (l : Late) → In l (lates h order o) → TaskFormed (length h.objects) l.task
 task_formed h order f o l i =
     let w = formed_at h f o in
     in_all (length h.objects) l (lates h order o) (by_kind h order (length h.objects) o (slot h order o) (object_at h o).kind (object_at h o).parts w.0 w.1) i
