@@ -23,7 +23,8 @@ QUIET = re.compile(r'"(?:[^"\\\n]|\\.)*"')
 TAKEN = re.compile(r"\buse (?:Rattle\.(?:std|core|io|std_alloc|std_collections|std_heap|std_io)\b|lib\b|Prim\b|native\b|mathlib\b|denote\b|borrow\b)[^\s;{]*\.\{([^}]*)\}")
 GENERATED = re.compile(r"^(returns|loop|invariant|decreases|overflow|bounds|slice_bounds|nonzero|prove)(-|$)")
 KEPT_HEADS = ("length-", "get_or-", "take-")
-SKIP = set()
+# What comments say of the text of a script.
+SKIP = {"vN"}
 # Constructors and a definition whose snake case is another's name.
 OWN = {
     "buffer-of": "buffer_of_named",

@@ -1,36 +1,33 @@
 -- Objects by kind: wrapped values, dates and patterns, plain objects and arrays evaluate.
-use Rattle.std.proofs.Common.{◌≡◌, ℕ, suc, ◌+◌, ◌<◌, ◌≤◌, Bool, true, false, cond, not, ◌&&◌, ◌||◌, ltb, ◌⊎◌, List, [], ◌∷◌, ◌++◌, length, take, drop, Some, None, Option, sym, refl, ap, ◌∙◌, subst, inl, inr, ⊎_elim, append_assoc, append-nil, arith, length-take, ltb-true}
+use Rattle.std.proofs.Common.{◌≡◌, ℕ, suc, ◌≤◌, Bool, true, false, cond, not, ltb, List, [], ◌∷◌, ◌++◌, length, take, drop, Some, None, sym, refl, ap, ◌∙◌, subst, ⊎_elim, append_assoc, append-nil, arith, length-take, ltb-true}
 use Rattle.std.specs.List.{AllByRecursion as All}
-use Rattle.std.proofs.lemmas.Bool.{cases_Bool, or_cases, both_ways}
-use Rattle.dump.specs.Heaps as heaps
-use Rattle.dump.specs.Heaps.{Key, index, Value, object, Heap, Kind, boolean_object, number_object, bigint_object, string_object, regexp, date, plain, sparse, dense, Part, property, element, entry, member, below, cause}
+use Rattle.std.proofs.lemmas.Bool.{or_cases, both_ways}
+use Rattle.dump.specs.Heaps.{Key, index, Value, object, Heap, Kind, plain, sparse, dense, Part, property, element, entry, member, below, cause}
 use Rattle.formed.specs.Formed.{PropertyFormed, PartsFormed}
 use Rattle.script.specs.Syntax as syntax
 use Rattle.script.specs.Syntax.{Expr, group, braces, brackets}
 use Rattle.planner.specs.Visits.{edges, edges_of, mem, object_at}
 use Rattle.planner.specs.Names.{count, pos, slot, has_name, backed, ready_before}
-use Rattle.planner.specs.Builds.{kind_expr, object_expr, items_of, built}
+use Rattle.planner.specs.Builds.{kind_expr, items_of, built}
 use Rattle.planner.specs.Lates.{Late, sets, lates_by, lates, late_properties, late_elements}
 use Rattle.evaluator.specs.Options.{and_then}
 use Rattle.evaluator.specs.Stores as stores
 use Rattle.evaluator.specs.Stores.{Shape, Slot, State, make}
 use Rattle.evaluator.specs.Runs.{element_slots}
 use Rattle.evaluator.specs.Isomorphic.{Pairing}
-use Rattle.effects.specs.Effects.{expr_made, array_made, canonical}
+use Rattle.effects.specs.Effects.{expr_made, array_made}
 use Rattle.rebuilds.specs.Adequate.{Adequate}
 use Rattle.rebuilds.specs.Makes.{within, written_by, written, expr_makes}
-use Rattle.rebuilds.specs.Pending.{In, Properties, Elements, ordered_tasks, part_tasks, Pends, occ}
+use Rattle.rebuilds.specs.Pending.{Properties, Elements, ordered_tasks, part_tasks, Pends}
 use Rattle.rebuilds.specs.Good.{Good}
 use Rattle.pending.proofs.Lists.{in_left}
 use Rattle.pending.proofs.Grows.{ext_append, properties_ext, elements_ext}
-use Rattle.places.proofs.Objects.{formed_at}
 use Rattle.places.proofs.Names.{own_slot, child_before}
 use Rattle.places.proofs.Lates.{edges_take}
-use Rattle.expressions.proofs.Plain.{same_canonical}
 use Rattle.expressions.proofs.Steps.{Ready, step_nil, ready_length}
 use Rattle.expressions.proofs.Values.{Fresh, Held, NamesGood, PlacesGood}
 use Rattle.expressions.proofs.Keys.{b_end}
-use Rattle.expressions.proofs.Rows.{AllBehind, AllHeld, KeysGood, keys_good}
+use Rattle.expressions.proofs.Rows.{AllBehind, KeysGood, keys_good}
 use Rattle.expressions.proofs.Elements.{RowGood, row_good}
 use Rattle.expressions.proofs.Finish.{finish}
 use Rattle.effects.specs.Bounded.{Bounded}

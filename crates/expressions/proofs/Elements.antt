@@ -1,22 +1,19 @@
 -- Elements in brackets: each is there, a hole, or a placeholder where it is not ready.
-use Rattle.std.proofs.Common.{◌≡◌, ℕ, suc, ◌+◌, ◌<◌, ◌≤◌, Bool, true, false, cond, not, ◌&&◌, ◌⊎◌, List, [], ◌∷◌, ◌++◌, length, Some, None, decimal, Option, sym, refl, ap, ◌∙◌, subst, inl, inr, ⊎_elim, append_assoc, append-nil, arith}
+use Rattle.std.proofs.Common.{◌≡◌, ℕ, suc, ◌+◌, Bool, true, false, cond, List, [], ◌∷◌, ◌++◌, length, Some, None, Option, sym, refl, ap, ◌∙◌, subst, ⊎_elim, append_assoc, arith}
 use Rattle.std.specs.List.{AllByRecursion as All}
-use Rattle.std.proofs.lemmas.Bool.{cond-true}
 use Rattle.dump.specs.Heaps as heaps
 use Rattle.dump.specs.Heaps.{Key, index, Value, Heap, Part, property, element, entry, member, below, cause}
 use Rattle.formed.specs.Formed.{ValueFormed, ElementFormed}
-use Rattle.script.specs.Syntax as syntax
 use Rattle.script.specs.Syntax.{Expr, Items, item}
-use Rattle.planner.specs.Visits.{refs, edges_of, mem}
+use Rattle.planner.specs.Visits.{refs, edges_of}
 use Rattle.planner.specs.Names.{count, ready_before}
 use Rattle.planner.specs.Builds.{child_expr, element_items, items_of, built}
 use Rattle.planner.specs.Lates.{Late, sets, late_elements}
 use Rattle.evaluator.specs.Options.{and_then}
-use Rattle.evaluator.specs.Stores as stores
 use Rattle.evaluator.specs.Stores.{Val, undefined, State}
-use Rattle.evaluator.specs.Runs.{Listed, element_slots}
+use Rattle.evaluator.specs.Runs.{element_slots}
 use Rattle.evaluator.specs.Isomorphic.{Pairing, Alike}
-use Rattle.effects.specs.Effects.{expr_made, row_made}
+use Rattle.effects.specs.Effects.{row_made}
 use Rattle.rebuilds.specs.Adequate.{Adequate}
 use Rattle.rebuilds.specs.Makes.{within, written_parts}
 use Rattle.rebuilds.specs.Pending.{In, here, there, Elements, e_end, e_hole, e_same, e_waits, occ}

@@ -1,15 +1,15 @@
 -- The last step of an object's expression: the object itself, behind all that hangs in it.
-use Rattle.std.proofs.Common.{◌≡◌, ℕ, ◌+◌, List, [], ◌∷◌, ◌++◌, length, Some, None, sym, refl, ap, ◌∙◌, subst, append_assoc, append-nil, arith}
+use Rattle.std.proofs.Common.{◌≡◌, ℕ, List, [], ◌∷◌, ◌++◌, length, Some, sym, refl, ap, ◌∙◌, subst, append_assoc, arith}
 use Rattle.dump.specs.Heaps.{object, Heap}
 use Rattle.script.specs.Syntax.{Expr}
 use Rattle.planner.specs.Visits.{object_at}
 use Rattle.planner.specs.Names.{count}
 use Rattle.planner.specs.Lates.{lates}
 use Rattle.evaluator.specs.Options.{nth}
-use Rattle.evaluator.specs.Stores.{Val, ref, Shape, Slot, Obj, State, make}
+use Rattle.evaluator.specs.Stores.{ref, Shape, Slot, State, make}
 use Rattle.evaluator.specs.Isomorphic.{Pairing}
 use Rattle.effects.specs.Effects.{grown, expr_made}
-use Rattle.rebuilds.specs.Makes.{within, written, expr_makes, one}
+use Rattle.rebuilds.specs.Makes.{within, written, expr_makes}
 use Rattle.rebuilds.specs.Pending.{a_nil, a_cons, Pends, occ}
 use Rattle.rebuilds.specs.Good.{Good}
 use Rattle.expressions.proofs.Steps.{Step, step_then, step_length, made_last, occ-++}

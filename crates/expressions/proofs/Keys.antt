@@ -1,11 +1,11 @@
 -- Keys in their order: a key behind all those that are there is added at the end.
-use Rattle.std.proofs.Common.{◌≡◌, ℕ, ◌+◌, ◌^◌, ◌<◌, ◌≤◌, Bool, true, false, cond, ◌&&◌, ◌||◌, eqb, ltb, leb, ◌⊎◌, List, [], ◌∷◌, ◌++◌, is_some, Some, None, decimal, Option, sym, refl, ap, ◌∙◌, inl, inr, ⊎_elim, arith, lt-ltb, eqb-true}
+use Rattle.std.proofs.Common.{◌≡◌, ℕ, ◌<◌, true, false, cond, eqb, List, [], ◌∷◌, ◌++◌, Some, None, decimal, Option, sym, refl, ap, ◌∙◌, ⊎_elim, arith, lt-ltb, eqb-true}
 use Rattle.std.proofs.lemmas.Bool.{cases_Bool, and_parts, or_from, both_ways}
 use Rattle.std.proofs.lemmas.Fmt.{decimal_injective}
 use Rattle.dump.specs.Heaps.{Text, Key, index, name}
 use Rattle.numeral.specs.Digits.{index_of}
 use Rattle.numeral.specs.Words.{same_units}
-use Rattle.formed.specs.Formed.{KeyFormed, KeyBefore}
+use Rattle.formed.specs.Formed.{KeyBefore}
 use Rattle.evaluator.specs.Stores as stores
 use Rattle.evaluator.specs.Stores.{Val, Slot, keyed, pair, single, has_key, key_is, with_key, add_key, insert_index, index_below, slot_index}
 use Rattle.evaluator.specs.Isomorphic.{key_text}

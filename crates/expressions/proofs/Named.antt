@@ -1,5 +1,5 @@
 -- The name of an object, or that of its backing view with `.buffer` behind it, evaluates to what stands for the object, and makes nothing.
-use Rattle.std.proofs.Common.{◌≡◌, ℕ, ◌<◌, true, false, cond, ◌⊎◌, List, [], is_some, Some, None, sym, refl, ap, ◌∙◌, subst, ⊎_elim, append-nil, arith}
+use Rattle.std.proofs.Common.{◌≡◌, ℕ, ◌<◌, true, false, cond, List, [], is_some, Some, None, sym, refl, ap, ◌∙◌, subst, ⊎_elim, append-nil, arith}
 use Rattle.dump.specs.Heaps.{object, Heap}
 use Rattle.script.specs.Syntax.{form, named, buffer_of_named}
 use Rattle.planner.specs.Visits.{mem}
@@ -50,7 +50,7 @@ module _ (h : Heap) (f : Bounded h) (order : List ℕ) (ad : Adequate h order) (
       let o = store_at h own left store p w e in
       record { obj = o.0; there = o.1; views = viewing h own (left w) w k.kind 0 k.n false b o.0 k.view_is k.view_parts o.2 }
 
-  -- v_n
+  -- vN
   by_name : (x : ℕ) → (a : At h f order ad x) → target h order a.line ≡ x → backing h order x ≡ None → slot h order x < t → (p : ℕ) × (expr_made (name_expr h order x) s ≡ made (ref p) s) × (nth own p ≡ Some (Some x))
   by_name x a e none lt =
       let place = a.place in
@@ -61,7 +61,7 @@ module _ (h : Heap) (f : Bounded h) (order : List ℕ) (ad : Adequate h order) (
         subst (λ y. nth own n.0 ≡ Some (Some y)) e n.2,
       )
 
-  -- v_n.buffer
+  -- vN.buffer
   by_view_lem : (b w : ℕ) → mem b order ≡ true → backing h order b ≡ Some w → slot h order b < t → (p : ℕ) × (expr_made (name_expr h order b) s ≡ made (ref p) s) × (nth own p ≡ Some (Some b))
   by_view_lem b w m e lt =
       let k = backs h f order ad b w m e in

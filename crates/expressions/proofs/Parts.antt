@@ -63,7 +63,7 @@ module _ (h : Heap) (f : Bounded h) (order : List ℕ) (own : Pairing) (s : Stat
       t.at_made refl refl t.on_made refl few (elements_back k (length bytes) even) typed-array aligned inside both)
       (λ y. omega (arith, t.counts y))
 
-  -- v_n.subarray(start, end) of the backing view of the same kind
+  -- vN.subarray(start, end) of the backing view of the same kind
   pub sub_good : (ad : Adequate h order) (left : ℕ → List Late) (t : ℕ) → Names h order own t s.names → Store h own left own s.objects →
       (w : ℕ) (a : Backs h f order ad b w) → a.kind ≡ k → pos h order b < t →
       Good h order own s (builds.subarray_of (slot h order w) (offset / width k) (offset / width k + n) (eqb (offset + n * width k) (length bytes))) (object x) (λ y. one y x)

@@ -1,11 +1,9 @@
 -- Plain values: a value that is no object and no hole evaluates to what is alike to it.
-use Rattle.std.proofs.Common.{◌≡◌, ℕ, ◌+◌, ◌*◌, ◌/◌, ◌%◌, ◌^◌, ◌<◌, ◌≤◌, Bool, true, false, cond, not, ◌&&◌, ◌||◌, eqb, ◌⊎◌, List, [], ◌∷◌, ◌++◌, Some, None, Option, sym, refl, ap, ◌∙◌, inl, inr, ⊎_elim, append-nil, arith, eq-eqb, ne_eqb, eqb-true}
+use Rattle.std.proofs.Common.{◌≡◌, ℕ, ◌/◌, ◌%◌, ◌^◌, ◌<◌, Bool, true, false, cond, not, ◌&&◌, eqb, [], Some, sym, refl, ap, ◌∙◌, ⊎_elim, append-nil, arith, eq-eqb, ne_eqb, eqb-true}
 use borrow.Author.Tests.{eqb-false}
 use Rattle.std.proofs.lemmas.Bool.{cases_Bool, or_left, or_right, both_ways}
-use Rattle.dump.specs.Heaps as heaps
 use Rattle.dump.specs.Heaps.{Value}
 use Rattle.numeral.specs.Numerals.{finite}
-use Rattle.evaluator.specs.Stores as stores
 use Rattle.evaluator.specs.Stores.{Val, number, State}
 use Rattle.evaluator.specs.Isomorphic.{Pairing, Alike, AlikeNumber, is_nan, same_value, whole_double}
 use Rattle.effects.specs.Effects.{canonical, plain_val, grown}

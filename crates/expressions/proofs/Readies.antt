@@ -1,5 +1,5 @@
 -- Values that are ready: each evaluates to what is alike to it, with all that hangs in it.
-use Rattle.std.proofs.Common.{◌≡◌, ℕ, ◌+◌, ◌≤◌, true, false, ◌⊎◌, List, [], ◌++◌, length, sym, ap, ◌∙◌, subst, ⊎_elim}
+use Rattle.std.proofs.Common.{◌≡◌, ℕ, ◌+◌, ◌≤◌, true, false, List, [], ◌++◌, length, sym, ap, ◌∙◌, subst, ⊎_elim}
 use Rattle.std.proofs.lemmas.Bool.{cond-true, both_ways}
 use Rattle.dump.specs.Heaps.{Value, Heap}
 use Rattle.formed.specs.Formed.{ValueFormed}

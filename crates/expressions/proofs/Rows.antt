@@ -1,27 +1,24 @@
 -- Rows in braces and brackets: each property and each element is there, or a placeholder where it is not ready.
-use Rattle.std.proofs.Common.{◌≡◌, ℕ, suc, ◌+◌, ◌<◌, ◌≤◌, Bool, true, false, cond, not, ◌&&◌, eqb, ◌⊎◌, List, [], ◌∷◌, ◌++◌, length, get_or, is_some, Some, None, decimal, Option, sym, refl, ap, ◌∙◌, subst, inl, inr, ⊎_elim, append_assoc, append-nil, arith, eqb-true}
+use Rattle.std.proofs.Common.{◌≡◌, ℕ, ◌+◌, ◌≤◌, Bool, true, false, cond, eqb, ◌⊎◌, List, [], ◌∷◌, ◌++◌, length, is_some, Some, None, Option, sym, refl, ap, ◌∙◌, subst, inl, inr, ⊎_elim, append_assoc, append-nil, arith, eqb-true}
 use Rattle.std.specs.List.{AllByRecursion as All}
 use Rattle.std.proofs.lemmas.Bool.{cases_Bool, cond-true, cond-false, both_ways, or_cases}
 use Rattle.dump.specs.Heaps as heaps
 use Rattle.dump.specs.Heaps.{Text, Key, index, name, Value, object, Heap, Part, property, element, entry, member, below, cause}
 use Rattle.numeral.specs.Digits.{index_of}
 use Rattle.formed.specs.Formed.{ValueFormed, KeyFormed, KeyBefore, Pairwise, PropertyFormed, PropertyBefore, ElementFormed}
-use Rattle.script.specs.Syntax as syntax
-use Rattle.script.specs.Syntax.{Expr, form, circular, Items, item, keyed}
-use Rattle.planner.specs.Visits.{refs, refs_of, values_in, edges_of, mem}
-use Rattle.planner.specs.Names.{count, pos, slot, has_name, ready_before}
-use Rattle.planner.specs.Builds.{value_expr, child_expr, element_items, items_of, built}
-use Rattle.planner.specs.Lates.{Late, sets, late_properties, late_elements, lates}
+use Rattle.script.specs.Syntax.{form, circular}
+use Rattle.planner.specs.Visits.{refs, edges_of, mem}
+use Rattle.planner.specs.Names.{count, ready_before}
+use Rattle.planner.specs.Builds.{value_expr, child_expr, items_of, built}
+use Rattle.planner.specs.Lates.{Late, sets, late_properties}
 use Rattle.evaluator.specs.Options.{and_then}
 use Rattle.evaluator.specs.Stores as stores
 use Rattle.evaluator.specs.Stores.{Val, undefined, Slot, State, made}
-use Rattle.evaluator.specs.Runs.{element_slots}
-use Rattle.evaluator.specs.Isomorphic.{Pairing, Alike, key_text, is_hole}
-use Rattle.effects.specs.Effects.{grown, expr_made, row_made, keys_made}
+use Rattle.evaluator.specs.Isomorphic.{Pairing, Alike, key_text}
+use Rattle.effects.specs.Effects.{grown, expr_made, keys_made}
 use Rattle.rebuilds.specs.Adequate.{Adequate}
 use Rattle.rebuilds.specs.Makes.{within, written_parts}
-use Rattle.rebuilds.specs.Pending.{In, here, there, Properties, p_end, p_same, p_waits, Elements, e_end, e_hole, e_same, e_waits, occ}
-use Rattle.rebuilds.specs.Good.{Good}
+use Rattle.rebuilds.specs.Pending.{In, here, there, Properties, p_end, p_same, p_waits, occ}
 use Rattle.visits.proofs.Lists.{mem_left, mem_right, count-++}
 use Rattle.pending.proofs.Grows.{ext_append, alike_ext}
 use Rattle.counts.proofs.Within.{within_append}

@@ -1,19 +1,18 @@
 -- Steps of an evaluation: each adds objects to the store, one after the other, and names stay as they are.
-use Rattle.std.proofs.Common.{◌≡◌, ℕ, zero, suc, ◌+◌, ◌<◌, ◌≤◌, Bool, true, false, cond, eqb, ◌⊎◌, List, [], ◌∷◌, ◌++◌, length, Some, None, Option, sym, refl, ap, ◌∙◌, subst, inl, inr, ⊎_elim, append_assoc, append-nil, arith, length-append, eq-eqb, ne_eqb, eqb-true}
-use borrow.Author.Tests.{eqb-false}
-use Rattle.std.proofs.lemmas.Bool.{cases_Bool, cases_eq, cond-true, cond-false}
+use Rattle.std.proofs.Common.{◌≡◌, ℕ, zero, suc, ◌+◌, ◌≤◌, cond, eqb, List, [], ◌∷◌, ◌++◌, length, Some, None, sym, refl, ap, ◌∙◌, subst, append_assoc, arith, length-append, eq-eqb, ne_eqb}
+use Rattle.std.proofs.lemmas.Bool.{cond-true, cond-false}
 use Rattle.dump.specs.Heaps.{Value, Heap}
 use Rattle.script.specs.Syntax.{Expr}
 use Rattle.planner.specs.Lates.{Late, lates}
 use Rattle.evaluator.specs.Options.{nth}
-use Rattle.evaluator.specs.Stores.{Val, ref, Shape, Slot, Obj, Bound, State, made, make}
-use Rattle.evaluator.specs.Isomorphic.{Pairing, Alike}
-use Rattle.effects.specs.Effects.{grown, expr_made}
+use Rattle.evaluator.specs.Stores.{Obj, Bound, State}
+use Rattle.evaluator.specs.Isomorphic.{Pairing}
+use Rattle.effects.specs.Effects.{grown}
 use Rattle.rebuilds.specs.Pending.{All2, a_nil, a_cons, Stored, Store, occ}
 use Rattle.rebuilds.specs.Good.{Good, Names, Built}
 use Rattle.pending.proofs.Lists.{all2_length, all2-++}
 use Rattle.effects.proofs.Options.{nth_left, nth_right}
-use Rattle.pending.proofs.Grows.{Ext, ext_append, alike_ext, store_ext}
+use Rattle.pending.proofs.Grows.{ext_append, store_ext}
 use Rattle.expressions.proofs.Plain.{grown_nil}
 
 pub occ-++ : (y : ℕ) (ps qs : Pairing) → occ y (ps ++ qs) ≡ occ y ps + occ y qs

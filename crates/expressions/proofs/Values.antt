@@ -1,5 +1,5 @@
 -- Values: what is plain stands as it is, an object with a name by its name, and any other by its own expression.
-use Rattle.std.proofs.Common.{◌≡◌, ℕ, ◌+◌, ◌<◌, ◌≤◌, Bool, true, false, cond, ◌⊎◌, List, [], ◌∷◌, ◌++◌, length, get_or, Some, None, Option, sym, refl, ap, ◌∙◌, subst, inl, inr, ⊎_elim, append-nil, arith}
+use Rattle.std.proofs.Common.{◌≡◌, ℕ, ◌+◌, ◌<◌, ◌≤◌, true, false, List, [], ◌∷◌, length, get_or, Some, sym, refl, ap, ◌∙◌, subst, ⊎_elim, append-nil, arith}
 use Rattle.std.proofs.lemmas.Bool.{cases_Bool, cond-true, cond-false}
 use Rattle.dump.specs.Heaps as heaps
 use Rattle.dump.specs.Heaps.{Value, object, Heap}
@@ -7,10 +7,9 @@ use Rattle.formed.specs.Formed.{ValueFormed}
 use Rattle.script.specs.Syntax as syntax
 use Rattle.script.specs.Syntax.{Expr, form, circular}
 use Rattle.planner.specs.Visits.{refs, mem}
-use Rattle.planner.specs.Names.{count, pos, slot, has_name, ready_before}
-use Rattle.planner.specs.Builds.{name_expr, value_expr, child_expr, object_expr, built}
-use Rattle.planner.specs.Lates.{lates}
-use Rattle.evaluator.specs.Options.{nth, and_then}
+use Rattle.planner.specs.Names.{count, pos, slot, has_name}
+use Rattle.planner.specs.Builds.{name_expr, value_expr, built}
+use Rattle.evaluator.specs.Options.{nth}
 use Rattle.evaluator.specs.Stores.{Val, ref, undefined, State, made}
 use Rattle.evaluator.specs.Isomorphic.{Pairing, Alike}
 use Rattle.effects.specs.Effects.{grown, plain_val, expr_made}
@@ -21,7 +20,7 @@ use Rattle.rebuilds.specs.Good.{Good}
 use Rattle.visits.proofs.Lists.{mem_head}
 use Rattle.counts.proofs.Within.{within_named, within_unnamed}
 use Rattle.expressions.proofs.Plain.{grown_nil, double_alike, whole_alike}
-use Rattle.expressions.proofs.Steps.{Ready, Step, step_nil}
+use Rattle.expressions.proofs.Steps.{Ready}
 use Rattle.effects.specs.Bounded.{Bounded}
 
 -- no object is made that is there

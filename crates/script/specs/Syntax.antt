@@ -6,7 +6,7 @@ use Rattle.dump.specs.Heaps.{Text, Value, Key}
 
 -- What is written with no expression inside. Names are numbers: 3 is v3.
 pub data Form : Type 0 where
-  -- v_n, and v_n.buffer
+  -- vN, and vN.buffer
   named buffer_of_named : ℕ → Form
   -- in the place of a value that is not ready
   circular : Form
@@ -28,7 +28,7 @@ pub data Form : Type 0 where
   data_buffer new_typed : ViewKind → List ℕ → Form
   -- the elements from one index to another of a typed array over data of its own
   typed_part : ViewKind → List ℕ → ℕ → ℕ → Form
-  -- v_n.subarray, from an index and to an index, where they are written
+  -- vN.subarray, from an index and to an index, where they are written
   subarray : ℕ → Option ℕ → Option ℕ → Form
 
 -- What has expressions inside.
@@ -55,14 +55,14 @@ mutual
 pub data Stmt : Type 0 where
   -- (function() {
   opening : Stmt
-  -- const v_n = e;
+  -- const vN = e;
   const : ℕ → Expr → Stmt
   -- vN[k] = e;
   assign : ℕ → Key → Expr → Stmt
-  -- v_n.set(e, f); and v_n.add(e);
+  -- vN.set(e, f); and vN.add(e);
   put : ℕ → Expr → Expr → Stmt
   add : ℕ → Expr → Stmt
-  -- new K(v_n).set([..]);
+  -- new K(vN).set([..]);
   fill : ℕ → ViewKind → List ℕ → Stmt
   -- e, or (e)
   last : Bool → Expr → Stmt

@@ -71,7 +71,7 @@ module _ (h : Heap) (f : Bounded h) (order : List ℕ) (ad : Adequate h order) w
 
   root_made : (own : Pairing) (s : State) → Simulates (length order) [] own s → Good h order own s (expr_of h order h.root) h.root (root_makes h order)
   root_made own s sim =
-      value_good h order f ad (names_good h f order ad) (length order) (places_good h f order ad (length order)) own (length order) s (record { left = left_at h order (length order); built = sim.built }) h.root f.root
+      value_good h order f ad (names_good h f order ad) (length order) (places_good h f order ad (length order)) own (length order) s (record { left = left_at h order (length order); built = sim.built }) h.root f.formed.root
       (λ j m. let i = root_in h f order ad j m in let p = place_in_lem j order i in let q = slot_le h f order ad j i in record { member = i; named = λ n. omega arith; unnamed = λ n. (p, omega arith) })
       (λ y. let a = sim.fresh y in omega arith)
 
