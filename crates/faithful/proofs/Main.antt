@@ -1,17 +1,15 @@
 -- The main statement: from the plan to its statements, from each statement to its line, and from the lines to every trace.
-use Rattle.std.proofs.Common.{◌≡◌, ℕ, cond, List, Ok, Err, Option, Result, sym, refl, ap, ◌∙◌, subst, arith}
+use Rattle.std.proofs.Common.{◌≡◌, ℕ, cond, List, Ok, Err, Option, Result, sym, refl, subst, arith}
 use Rattle.dump.specs.declared.refusal.Refusal.{Refusal}
 use Rattle.dump.specs.Rules.{and_then}
 use Rattle.dump.specs.Heaps.{Heap}
 use Rattle.faithful.proofs.Short.{bounded}
-use Rattle.speller.specs.Spelling.{Lawful}
 use Rattle.planner.specs.Visits.{order}
 use Rattle.planner.specs.Lines.{Format, Plan, planned, spelled_all, not_deep, stmts, wrapped}
 use Rattle.places.proofs.Orders.{adequate}
 use Rattle.readables.proofs.Readables.{readables}
 use Rattle.faithful.proofs.Lines.{lines_do}
 use Rattle.simulation.proofs.Last.{whole}
-use Rattle.traces.specs.Theorem.{Inverse}
 use Rattle.faithful.specs.Accepted.{FaithfulAt, BoundedFaithful, AcceptedFaithful}
 use Rattle.faithful.proofs.Scripts.{faithful_lines}
 

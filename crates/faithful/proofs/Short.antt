@@ -1,5 +1,5 @@
 -- The buffers of an accepted dump have no more bytes than its section of bytes may have.
-use Rattle.std.proofs.Common.{◌≡◌, ℕ, ◌+◌, ◌*◌, ◌<◌, ◌≤◌, Bool, true, false, cond, ◌&&◌, ◌||◌, eqb, leb, ltb, List, length, Some, None, Ok, Err, Result, refl, sym, subst, arith}
+use Rattle.std.proofs.Common.{◌≡◌, ℕ, ◌+◌, ◌*◌, ◌<◌, ◌≤◌, Bool, true, false, cond, ◌&&◌, ◌||◌, eqb, leb, ltb, List, length, Option, Ok, Err, Result, refl, subst, arith}
 use lib.Pow.{are_bytes}
 use Rattle.std.specs.List.{AllByRecursion as All}
 use Rattle.std.proofs.lemmas.Bool.{and_parts, leb-true, ltb-false}
@@ -84,14 +84,15 @@ module _ (b : List ℕ) (l : Layout) where
       by_buffer true g maximum m q = rw (length-bytes b (l.octets.start + r.a) r.b) g
       by_buffer false g maximum m q = q
 
+  object_short : Sound b l → l.octets.count ≤ 1048576 → (i : ℕ) → i < l.objects.count → ObjectShort (object_of b l i)
+  object_short s few i g =
+      let h = s.objects i g in
+      let fits = and_parts _ _ h.1.0 in
+      let runs = and_parts _ _ fits.1 in
+      kind_short (row_at b l i) (row_bytes (row_at b l i) (bytes_below b l i) l.octets.count 1048576 runs.1 few)
+
   objects_short : Sound b l → l.octets.count ≤ 1048576 → All ObjectShort (heap_of b l).objects
-  objects_short s few = all_counting ObjectShort (object_of b l) 0 l.objects.count (λ k g. short (0 + k) (omega arith))
-    where
-      short : (i : ℕ) → i < l.objects.count → ObjectShort (object_of b l i)
-      short i g =
-          let h = s.objects i g in
-          let runs = and_parts _ _ (and_parts _ _ h.1.0).1 in
-          kind_short (row_at b l i) (row_bytes (row_at b l i) (bytes_below b l i) l.octets.count 1048576 runs.1 few)
+  objects_short s few = all_counting ObjectShort (object_of b l) 0 l.objects.count (λ k g. object_short s few (0 + k) (omega arith))
 
 pub bounded : (b : List ℕ) (h : Heap) → are_bytes b ≡ true → verdict b ≡ Ok h → Bounded h
 bounded b h bytes accepted =

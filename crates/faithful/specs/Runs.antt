@@ -1,17 +1,14 @@
 -- Lines that run, each prefix of them, and rebuild a heap; a line that does what its statement does.
-use Rattle.std.specs.Prelude.{◌≡◌, ℕ, List, ◌∷◌, ◌++◌, map, Some, Option}
+use Rattle.std.specs.Prelude.{◌≡◌, ℕ, List, ◌++◌, Some, Option}
 use Rattle.dump.specs.Heaps.{Heap}
-use Rattle.script.specs.Items.{Line, all, line}
+use Rattle.script.specs.Items.{all, line}
 use Rattle.script.specs.Syntax.{Stmt}
 use Rattle.script.specs.Texts.{stmt_items}
-use Rattle.planner.specs.Lines.{Plan}
 use Rattle.evaluator.specs.Stores.{Val, State}
 use Rattle.evaluator.specs.Commands.{Ran}
 use Rattle.evaluator.specs.Runs.{run, run_line}
 use Rattle.evaluator.specs.Isomorphic.{Isomorphic}
 use Rattle.effects.specs.Effects.{stmt_done}
-use Rattle.traces.specs.Traces.{Entry, Trace}
-use Rattle.traces.specs.Theorem.{texts_of, bytes_in, IsAll, Sound}
 
 pub record Runs (h : Heap) (reading : List ℕ → Option ℕ) (lines : List (List ℕ)) : Type 0 where
   -- every prefix runs

@@ -1,14 +1,12 @@
 -- Every planned expression evaluates: by induction on places, and by kind.
-use Rattle.std.proofs.Common.{◌≡◌, ℕ, zero, suc, ◌+◌, ◌<◌, ◌≤◌, Bool, true, false, List, [], ◌∷◌, ◌++◌, length, get_or, Some, None, Option, sym, refl, ap, ◌∙◌, subst, arith}
-use Rattle.dump.specs.Heaps as heaps
+use Rattle.std.proofs.Common.{◌≡◌, ℕ, zero, suc, ◌+◌, ◌≤◌, true, List, length, get_or, Some, None, sym, refl, ap, ◌∙◌, subst, arith}
 use Rattle.dump.specs.Heaps.{object, Heap, Kind, boolean_object, number_object, bigint_object, string_object, regexp, date, plain, sparse, dense, map, set, buffer, view, error, Part}
 use Rattle.formed.specs.Formed.{KindFormed, PartsFormed}
 use Rattle.script.specs.Syntax as syntax
 use Rattle.script.specs.Syntax.{form, circular}
-use Rattle.planner.specs.Visits.{edges, mem, object_at}
-use Rattle.planner.specs.Names.{count, pos, slot, has_name, backing, backed}
-use Rattle.planner.specs.Builds.{kind_expr, object_expr, buffer_expr, built}
-use Rattle.planner.specs.Lates.{lates}
+use Rattle.planner.specs.Visits.{mem, object_at}
+use Rattle.planner.specs.Names.{count, pos, slot, backing, backed}
+use Rattle.planner.specs.Builds.{kind_expr, object_expr, built}
 use Rattle.evaluator.specs.Stores as stores
 use Rattle.evaluator.specs.Stores.{State}
 use Rattle.evaluator.specs.Isomorphic.{Pairing, big_value}

@@ -1,11 +1,11 @@
 -- The follow-ups that are due at one place: each in its turn mends its object.
-use Rattle.std.proofs.Common.{◌≡◌, ℕ, suc, ◌+◌, ◌<◌, ◌≤◌, Bool, true, false, cond, not, ◌&&◌, ◌||◌, eqb, leb, ◌⊎◌, List, [], ◌∷◌, ◌++◌, Some, None, Option, sym, refl, ap, ◌∙◌, subst, inl, inr, ⊎_elim, append_assoc, append-nil, arith, eq-eqb, ne_eqb, eqb-true, le-leb, leb-false, leb-true}
+use Rattle.std.proofs.Common.{◌≡◌, ℕ, suc, ◌+◌, ◌<◌, ◌≤◌, Bool, true, false, cond, ◌&&◌, ◌||◌, eqb, leb, ◌⊎◌, List, [], ◌∷◌, ◌++◌, None, sym, refl, ap, ◌∙◌, subst, inl, inr, ⊎_elim, append_assoc, append-nil, arith, eq-eqb, ne_eqb, eqb-true, le-leb, leb-false, leb-true}
 use borrow.Author.Tests.{eqb-false, lt-leb}
 use Rattle.std.proofs.lemmas.Bool.{cases_Bool, cases_eq, cond-true, cond-false, both_ways, or_parts, or_from, or_right}
-use Rattle.dump.specs.Heaps.{object, Heap}
+use Rattle.dump.specs.Heaps.{Heap}
 use Rattle.script.specs.Syntax.{Stmt}
 use Rattle.planner.specs.Visits.{mem}
-use Rattle.planner.specs.Names.{count, pos, slot, has_name}
+use Rattle.planner.specs.Names.{count, slot, has_name}
 use Rattle.planner.specs.Lates.{Late, lates, due}
 use Rattle.planner.specs.Lines.{target, has_line, late_stmt, all_due, due_at}
 use Rattle.evaluator.specs.Stores.{State}
@@ -24,7 +24,7 @@ use Rattle.places.proofs.Lates.{no_lates}
 use Rattle.places.proofs.Dues.{due_late, due_own, due_names, due_sorted}
 use Rattle.expressions.proofs.Steps.{occ-++}
 use Rattle.expressions.proofs.Values.{Fresh}
-use Rattle.simulation.proofs.Runs.{Leads, leads_nil, leads_append, leads_cons}
+use Rattle.simulation.proofs.Runs.{Leads, leads_append, leads_cons}
 use Rattle.effects.specs.Bounded.{Bounded}
 
 -- lists of follow-ups with their dues

@@ -1,16 +1,16 @@
 -- A follow-up runs: its values evaluate, and it mends its object.
-use Rattle.std.proofs.Common.{◌≡◌, ℕ, suc, ◌+◌, ◌<◌, ◌≤◌, Bool, true, false, cond, not, eqb, ◌⊎◌, List, [], ◌∷◌, ◌++◌, length, get_or, Some, None, Option, sym, refl, ap, ◌∙◌, subst, inl, inr, ⊎_elim, append_assoc, append-nil, arith, eq-eqb, ne_eqb, eqb-true}
+use Rattle.std.proofs.Common.{◌≡◌, ℕ, ◌+◌, ◌<◌, ◌≤◌, true, false, cond, eqb, List, [], ◌∷◌, ◌++◌, length, Some, None, sym, refl, ap, ◌∙◌, subst, ⊎_elim, append_assoc, arith, eq-eqb, ne_eqb}
 use Rattle.std.proofs.lemmas.Bool.{cond-true, cond-false}
 use Rattle.dump.specs.declared.kinds.ViewKind.{ViewKind}
-use Rattle.dump.specs.Heaps.{Key, Value, object, Heap}
+use Rattle.dump.specs.Heaps.{Key, Value, Heap}
 use Rattle.formed.specs.Formed.{ValueFormed}
 use Rattle.script.specs.Texts.{listing}
-use Rattle.planner.specs.Visits.{refs, edges, mem, object_at}
+use Rattle.planner.specs.Visits.{refs, mem, object_at}
 use Rattle.planner.specs.Names.{count, pos, slot, has_name, backing, backed, buffer_in}
 use Rattle.planner.specs.Lates.{Task, sets, puts, adds, fills, Late, lates}
-use Rattle.planner.specs.Lines.{target, has_line, late_stmt, expr_of, bytes_of}
+use Rattle.planner.specs.Lines.{target, late_stmt, expr_of, bytes_of}
 use Rattle.evaluator.specs.Options.{and_then, nth}
-use Rattle.evaluator.specs.Stores.{Val, ref, Obj, State, Made, made, lookup, place, object_of, replaced, change}
+use Rattle.evaluator.specs.Stores.{ref, Obj, State, made, lookup, place, object_of, change}
 use Rattle.evaluator.specs.Commands.{assigned, ran}
 use Rattle.evaluator.specs.Makes.{set_pair, add_one}
 use Rattle.evaluator.specs.Isomorphic.{Pairing, Alike, key_text}
@@ -18,7 +18,7 @@ use Rattle.effects.specs.Effects.{grown, expr_made, stmt_done, filled_by}
 use Rattle.rebuilds.specs.Adequate.{Adequate}
 use Rattle.rebuilds.specs.Makes.{within, task_refs, task_makes}
 use Rattle.rebuilds.specs.Pending.{In, a_nil, a_cons, Pending, Store, ordered_tasks, occ}
-use Rattle.rebuilds.specs.Good.{Good, Names, Built}
+use Rattle.rebuilds.specs.Good.{Good, Built}
 use Rattle.visits.proofs.Lists.{mem_left, mem_right}
 use Rattle.pending.proofs.Lists.{all2-++}
 use Rattle.effects.proofs.Options.{nth_left}
@@ -28,12 +28,11 @@ use Rattle.pending.proofs.Sets.{sets_done}
 use Rattle.pending.proofs.Maps.{puts_done, adds_done}
 use Rattle.pending.proofs.Bytes.{fills_done}
 use Rattle.effects.proofs.Options.{cases_option}
-use Rattle.places.proofs.Objects.{view_in_lem}
 use Rattle.places.proofs.Names.{own_slot, child_before, backs, backs_of}
-use Rattle.places.proofs.Lines.{At, bound_at}
+use Rattle.places.proofs.Lines.{bound_at}
 use Rattle.places.proofs.Lates.{late_target, late_refs, view_lates, fixed_lates, no_lates}
 use Rattle.counts.proofs.Inner.{count_within}
-use Rattle.expressions.proofs.Steps.{Ready, Step, step_nil, step_then, step_good, step_ready, occ-++, store_on}
+use Rattle.expressions.proofs.Steps.{Ready, step_then, step_good, step_ready, occ-++, store_on}
 use Rattle.expressions.proofs.Values.{Fresh, Held, value_good}
 use Rattle.simulation.proofs.Flushes.{LateDone, LatesRun}
 use Rattle.simulation.proofs.Inside.{counted, inside_within, within_unnamed}

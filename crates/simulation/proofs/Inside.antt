@@ -1,5 +1,5 @@
 -- All that lines make are objects of the order.
-use Rattle.std.proofs.Common.{◌≡◌, ℕ, zero, suc, ◌+◌, ◌<◌, ◌≤◌, Bool, true, false, cond, ◌||◌, eqb, ◌⊎◌, List, [], ◌∷◌, ◌++◌, length, get_or, Some, None, Option, sym, refl, ap, ◌∙◌, subst, inl, inr, ⊎_elim, arith, eqb-true}
+use Rattle.std.proofs.Common.{◌≡◌, ℕ, zero, suc, ◌+◌, ◌<◌, ◌≤◌, Bool, true, false, cond, ◌||◌, eqb, ◌⊎◌, List, [], ◌∷◌, ◌++◌, length, get_or, Some, None, Option, sym, refl, subst, inl, inr, ⊎_elim, arith, eqb-true}
 use Rattle.std.specs.List.{AllByRecursion as All}
 use Rattle.std.proofs.lemmas.Bool.{cases_Bool, both_ways, or_cases, or_right}
 use Rattle.dump.specs.Heaps.{Heap}
@@ -8,7 +8,7 @@ use Rattle.planner.specs.Names.{count, pos, has_name, backing}
 use Rattle.planner.specs.Lates.{Late}
 use Rattle.rebuilds.specs.Adequate.{Adequate}
 use Rattle.rebuilds.specs.Makes.{inner, makes_all, makes, within, one, written, expr_makes, line_makes, line_makes_by, task_makes, due_makes}
-use Rattle.visits.proofs.Lists.{mem_head, mem_left, mem_right, count_none}
+use Rattle.visits.proofs.Lists.{mem_head, mem_left, count_none}
 use Rattle.visits.proofs.Orders.{place_le}
 use Rattle.places.proofs.Names.{backing_covers, child_before}
 use Rattle.counts.proofs.Within.{makes_at}

@@ -1,19 +1,19 @@
 -- The whole script: all lines run, the last gives the root, and what was built is isomorphic to the heap.
-use Rattle.std.proofs.Common.{◌≡◌, ℕ, suc, ◌+◌, ◌<◌, ◌≤◌, Bool, true, false, cond, leb, ◌⊎◌, List, [], ◌∷◌, ◌++◌, length, Some, None, Option, sym, refl, ap, ◌∙◌, subst, inl, inr, ⊎_elim, arith, leb-false, leb-true}
+use Rattle.std.proofs.Common.{◌≡◌, ℕ, ◌<◌, ◌≤◌, Bool, true, false, cond, leb, List, [], ◌∷◌, ◌++◌, length, Some, refl, ap, ◌∙◌, subst, ⊎_elim, arith, leb-false, leb-true}
 use Rattle.std.proofs.lemmas.Bool.{cases_Bool}
 use Rattle.dump.specs.Heaps.{Heap}
 use Rattle.script.specs.Syntax.{Stmt, opening, last, return}
 use Rattle.planner.specs.Visits.{refs, mem}
-use Rattle.planner.specs.Names.{count, pos, slot, has_name}
+use Rattle.planner.specs.Names.{has_name}
 use Rattle.planner.specs.Lates.{Late, lates, due}
-use Rattle.planner.specs.Lines.{Format, expr_of, lines_at, body, wrapped, stmts}
+use Rattle.planner.specs.Lines.{Format, expr_of, body, wrapped, stmts}
 use Rattle.evaluator.specs.Options.{and_then}
 use Rattle.evaluator.specs.Stores.{Val, State, start}
 use Rattle.evaluator.specs.Commands.{Ran, ran}
 use Rattle.evaluator.specs.Isomorphic.{Pairing, Isomorphic}
-use Rattle.effects.specs.Effects.{grown, expr_made, stmt_done, stmts_done}
+use Rattle.effects.specs.Effects.{grown, expr_made, stmts_done}
 use Rattle.rebuilds.specs.Adequate.{Adequate}
-use Rattle.rebuilds.specs.Makes.{within, lines_make, root_makes}
+use Rattle.rebuilds.specs.Makes.{within, root_makes}
 use Rattle.rebuilds.specs.Pending.{In, here, there, a_nil, Store, due_from, left_at, occ}
 use Rattle.rebuilds.specs.Good.{Good}
 use Rattle.visits.proofs.Orders.{place_in_lem}
@@ -25,7 +25,7 @@ use Rattle.places.proofs.Names.{slot_le}
 use Rattle.places.proofs.Lates.{no_lates}
 use Rattle.places.proofs.Dues.{root_in, due_line}
 use Rattle.counts.proofs.Once.{once_made}
-use Rattle.expressions.proofs.Steps.{Ready, occ-++, store_on}
+use Rattle.expressions.proofs.Steps.{occ-++, store_on}
 use Rattle.expressions.proofs.Values.{value_good}
 use Rattle.simulation.proofs.Runs.{going, Leads, stmts_append}
 use Rattle.simulation.proofs.Flushes.{from_drops}

@@ -1,11 +1,10 @@
 -- Line by line: after the lines of the first places the store stands for what they build, and lacks just what is due later.
-use Rattle.std.proofs.Common.{◌≡◌, ℕ, suc, ◌+◌, ◌<◌, ◌≤◌, Bool, true, false, cond, not, ◌&&◌, ◌||◌, eqb, leb, ◌⊎◌, List, [], ◌∷◌, ◌++◌, length, get_or, is_some, Some, None, Option, sym, refl, ap, ◌∙◌, subst, inl, inr, ⊎_elim, append_assoc, append-nil, arith, length-append, eq-eqb, ne_eqb, eqb-true, leb-false, leb-true}
-use borrow.Author.Tests.{eqb-false}
+use Rattle.std.proofs.Common.{◌≡◌, ℕ, suc, ◌+◌, ◌<◌, ◌≤◌, Bool, true, false, cond, not, ◌&&◌, eqb, leb, List, [], ◌∷◌, ◌++◌, length, get_or, is_some, Some, None, Option, sym, refl, ap, ◌∙◌, subst, ⊎_elim, append_assoc, append-nil, arith, length-append, eq-eqb, ne_eqb, eqb-true, leb-false, leb-true}
 use Rattle.std.proofs.lemmas.Bool.{cases_Bool, cases_eq, cond-true, cond-false, both_ways, or_left, or_right, or_cases, and_parts}
 use Rattle.dump.specs.Heaps.{object, Heap}
-use Rattle.script.specs.Syntax.{Expr, form, circular, Stmt, const}
+use Rattle.script.specs.Syntax.{form, circular, const}
 use Rattle.planner.specs.Visits.{mem}
-use Rattle.planner.specs.Names.{count, pos, slot, has_name, backing, backed}
+use Rattle.planner.specs.Names.{pos, slot, has_name, backing, backed}
 use Rattle.planner.specs.Builds.{built}
 use Rattle.planner.specs.Lates.{Late, lates, due}
 use Rattle.planner.specs.Lines.{target, has_line, all_due, due_at, lines_at}
@@ -13,23 +12,23 @@ use Rattle.evaluator.specs.Options.{and_then, when, nth}
 use Rattle.evaluator.specs.Stores.{Val, ref, Bound, bound, State, lookup}
 use Rattle.evaluator.specs.Commands.{ran}
 use Rattle.evaluator.specs.Isomorphic.{Pairing}
-use Rattle.effects.specs.Effects.{grown, expr_made, stmt_done}
+use Rattle.effects.specs.Effects.{stmt_done}
 use Rattle.rebuilds.specs.Adequate.{Adequate}
 use Rattle.rebuilds.specs.Makes.{one, expr_makes, line_makes, line_makes_by, due_makes, lines_make, root_makes}
-use Rattle.rebuilds.specs.Pending.{In, here, there, Store, due_from, left_at, occ}
-use Rattle.rebuilds.specs.Good.{Good, Names, Built}
+use Rattle.rebuilds.specs.Pending.{In, here, there, due_from, left_at, occ}
+use Rattle.rebuilds.specs.Good.{Good, Built}
 use Rattle.visits.proofs.Lists.{mem_head, mem_right, once_before}
 use Rattle.visits.proofs.Orders.{place_same, place_split}
 use Rattle.pending.proofs.Lists.{all2-++}
 use Rattle.effects.proofs.Options.{nth_left}
 use Rattle.pending.proofs.Grows.{ext_append, store_ext}
 use Rattle.places.proofs.Names.{backs}
-use Rattle.places.proofs.Lines.{At, line_self, line_backed, target_self, target_backed, bound_at, line_target}
+use Rattle.places.proofs.Lines.{line_self, target_backed, bound_at, line_target}
 use Rattle.places.proofs.Lates.{no_lates, fixed_lates}
 use Rattle.places.proofs.Dues.{lates_in, due_lates, due_own, due_line}
 use Rattle.expressions.proofs.Steps.{Ready, occ-++, occ_at, store_on}
 use Rattle.expressions.proofs.Values.{Fresh}
-use Rattle.simulation.proofs.Runs.{Leads, leads_nil, leads_append, leads_cons}
+use Rattle.simulation.proofs.Runs.{Leads, leads_append, leads_cons}
 use Rattle.simulation.proofs.Flushes.{from_next, LatesRun, is_target, left_by, Flushed, flush}
 use Rattle.simulation.proofs.Inside.{line_inside, due_inside}
 use Rattle.effects.specs.Bounded.{Bounded}
