@@ -24,7 +24,7 @@ TAKEN = re.compile(r"\buse (?:Rattle\.(?:std|core|io|std_alloc|std_collections|s
 GENERATED = re.compile(r"^(returns|loop|invariant|decreases|overflow|bounds|slice_bounds|nonzero|prove)(-|$)")
 KEPT_HEADS = ("length-", "get_or-", "take-")
 # What comments say of the text of a script.
-SKIP = {"vN"}
+SKIP = {"vN", "no-break"}
 # Constructors and a definition whose snake case is another's name.
 OWN = {
     "buffer-of": "buffer_of_named",

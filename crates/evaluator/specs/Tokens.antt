@@ -30,7 +30,7 @@ word_start c = (nat_le 97 c && nat_le c 122) || ((nat_le 65 c && nat_le c 90) ||
 abbrev pub word_part : ℕ → Bool
 word_part c = word_start c || is_digit c
 
--- white space: tab, vertical tab, form feed, space, no_break space, byte order mark
+-- white space: tab, vertical tab, form feed, space, no-break space, byte order mark
 abbrev pub is_blank : ℕ → Bool
 is_blank c = c == 9 || (c == 11 || (c == 12 || (c == 32 || (c == 160 || c == 65279))))
 

@@ -1,2 +1,2 @@
-// Traces of a delivery, and the main statement about them: definitions. The calls and the proof are to come.
+// Traces of a delivery, and the main statement about them: definitions. The calls are to come; of bounded heaps it is proved in the crate faithful.
 #![tactic(auto)]
