@@ -1,2 +1,2 @@
-// Every planned statement of a formed heap can be read back.
+// Every planned statement of a bounded heap can be read back.
 #![tactic(auto)]

@@ -11,7 +11,7 @@ pub trait Speller {
     // The numeral, in ASCII, of the double with some bits, if it has one.
     ghost means: { Self → ℕ → Option (List ℕ) };
 
-    // `LONGEST`: a contract cannot name a constant.
+    // `LONGEST`, as the clauses cite it.
     ghost most: { ℕ };
 
     // `LONGEST`, with its promise, for code that knows a speller only by this trait.

@@ -55,7 +55,7 @@ Sound h reading lines es =
     (before after : List Entry) (left end : List (List ℕ)) → es ≡ before ++ after → Trace lines before left → Trace left after end
     → SoundAt h reading lines before left × ((e : Entry) (rest : List Entry) → after ≡ e ∷ rest → Counts left e)
 
--- for every heap that check accepts, every lawful speller and every format that plan does not refuse, every trace is sound
+-- for every well-formed heap, every lawful speller and every format that plan does not refuse, every trace is sound
 abbrev pub Faithful : Type 0
 Faithful =
     (h : Heap) (numeral : ℕ → Option (List ℕ)) (reading : List ℕ → Option ℕ) (f : Format) (p : Plan)
