@@ -10,7 +10,7 @@ use Rattle.planner.specs.Visits.{refs, refs_of, edges_of, object_at, edges}
 use Rattle.planner.specs.Names.{count, slot, ready_before}
 use Rattle.planner.specs.Lates.{sets, puts, adds, Late, late_properties, late_elements, late_members, late_causes, late_bytes, lates_by, lates}
 use Rattle.rebuilds.specs.Makes.{within, written_parts, written_by, written, task_makes}
-use Rattle.places.proofs.Objects.{formed_at}
+use Rattle.effects.proofs.Objects.{formed_at}
 use Rattle.places.proofs.Lates.{edges_split}
 use Rattle.counts.proofs.Inner.{count_within}
 use Rattle.effects.specs.Plans.{stack_text}

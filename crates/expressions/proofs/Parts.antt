@@ -22,7 +22,7 @@ use Rattle.rebuilds.specs.Pending.{a_nil, Store}
 use Rattle.rebuilds.specs.Good.{Good, Names}
 use Rattle.pending.proofs.Lists.{all2_length}
 use Rattle.pending.proofs.Stores.{store_at}
-use Rattle.places.proofs.Objects.{buffer_short}
+use Rattle.effects.proofs.Objects.{buffer_short}
 use Rattle.places.proofs.Names.{Backs}
 use Rattle.expressions.proofs.Stores.{Sized, buffered}
 use Rattle.expressions.proofs.Makes.{elements_back, elements_of, Bounds, from, both, parted}

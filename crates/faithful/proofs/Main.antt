@@ -1,8 +1,9 @@
 -- The main statement: from the plan to its statements, from each statement to its line, and from the lines to every trace.
-use Rattle.std.proofs.Common.{◌≡◌, ℕ, cond, List, Ok, Err, Option, Result, sym, refl, subst, arith}
+use Rattle.std.proofs.Common.{◌≡◌, ℕ, cond, List, Ok, Option, Result, sym, subst}
 use Rattle.dump.specs.declared.refusal.Refusal.{Refusal}
 use Rattle.dump.specs.Rules.{and_then}
 use Rattle.dump.specs.Heaps.{Heap}
+use Rattle.formed.proofs.Layouts.{then_ok}
 use Rattle.faithful.proofs.Short.{bounded}
 use Rattle.planner.specs.Visits.{order}
 use Rattle.planner.specs.Lines.{Format, Plan, planned, spelled_all, not_deep, stmts, wrapped}
@@ -13,11 +14,6 @@ use Rattle.simulation.proofs.Last.{whole}
 use Rattle.faithful.specs.Accepted.{FaithfulAt, BoundedFaithful, AcceptedFaithful}
 use Rattle.faithful.proofs.Scripts.{faithful_lines}
 
--- what comes of two steps, if something does
-taken : {A B : Type 0} (r : Result A Refusal) (f : A → Result B Refusal) (b : B) → and_then r f ≡ Ok b → (a : A) × (r ≡ Ok a) × (f a ≡ Ok b)
-taken (Ok a) f b e = (a, refl, e)
-taken (Err x) f b e = absurd (let z : ◌≡◌ {A = ℕ} 0 1 = cc in omega arith)
-
 -- the lines and the base of a plan, and that every double has its numeral
 pub record Planned (numeral : ℕ → Option (List ℕ)) (h : Heap) (f : Format) (p : Plan) : Type 0 where
   pub spelled : spelled_all numeral h ≡ Ok tt
@@ -25,8 +21,8 @@ pub record Planned (numeral : ℕ → Option (List ℕ)) (h : Heap) (f : Format)
 
 plan_is : (numeral : ℕ → Option (List ℕ)) (h : Heap) (f : Format) (p : Plan) → planned numeral h f ≡ Ok p → Planned numeral h f p
 plan_is numeral h f p e =
-    let a = taken (spelled_all numeral h) (λ _. and_then (not_deep 0 (stmts h (order h) f)) (λ _. Ok (record { lines = stmts h (order h) f; base = cond (wrapped h (order h) f) 1 0 }))) p e in
-    let b = taken (not_deep 0 (stmts h (order h) f)) (λ _. Ok (record { lines = stmts h (order h) f; base = cond (wrapped h (order h) f) 1 0 })) p a.2 in
+    let a = then_ok (spelled_all numeral h) (λ _. and_then (not_deep 0 (stmts h (order h) f)) (λ _. Ok (record { lines = stmts h (order h) f; base = cond (wrapped h (order h) f) 1 0 }))) p e in
+    let b = then_ok (not_deep 0 (stmts h (order h) f)) (λ _. Ok (record { lines = stmts h (order h) f; base = cond (wrapped h (order h) f) 1 0 })) p a.2 in
     record { spelled = a.1; is = ok b.2 }
   where
     ok : {q : Plan} → ◌≡◌ {A = Result Plan Refusal} (Ok q) (Ok p) → p ≡ q

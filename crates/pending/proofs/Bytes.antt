@@ -20,7 +20,7 @@ use Rattle.evaluator.specs.Isomorphic.{Pairing, AlikeParts}
 use Rattle.effects.specs.Effects.{grown, listed, filled, filled_by}
 use Rattle.rebuilds.specs.Pending.{In, Bytes, Pends, Pending}
 use Rattle.pending.proofs.Lates.{not_task, task_of}
-use Rattle.pending.proofs.Done.{object_formed}
+use Rattle.effects.proofs.Objects.{formed_at}
 use Rattle.effects.specs.Bounded.{Bounded}
 
 -- a kind of bytes is listed as numbers
@@ -146,4 +146,4 @@ pub fills_done : (h : Heap) (order : List ℕ) (own : Pairing) (o : ℕ) (K L : 
     Pending h own o (K ++ (l ∷ L)) x → l.task ≡ fills k → (p : ℕ) (s : State) → nth s.objects p ≡ Some x →
     (junk : List Obj) × (u : Obj) × (length junk ≡ 2) × (filled_by (listing k) p (ref p) k (bytes_of h order (buffer_in (object_at h o).kind)) s ≡ Some (change p u (grown s junk))) × Pending h own o (K ++ L) u
 fills_done h order own o K L l x k f lt i r task p s at =
-    fills_mended own o K L l p k task h order (slot h order o) (length h.objects) (object_at h o).kind (object_at h o).parts x.shape x.slots (object_formed h o f lt).1 i r s at
+    fills_mended own o K L l p k task h order (slot h order o) (length h.objects) (object_at h o).kind (object_at h o).parts x.shape x.slots (formed_at h f o).1 i r s at

@@ -1,20 +1,18 @@
 -- An object without follow-ups to come is alike to the heap's.
 use Rattle.std.proofs.Common.{◌≡◌, ℕ, suc, ◌<◌, ◌≤◌, true, List, [], ◌∷◌, ◌++◌, length, take, drop, Some, None, decimal, Option, sym, refl, ap, ◌∙◌, subst, ⊎_elim, arith, take-append-drop, eq-eqb}
 use Rattle.std.specs.List.{AllByRecursion as All}
-use Rattle.std.proofs.ByRecursion.{All-weaker, All-get_or}
+use Rattle.std.proofs.ByRecursion.{All-weaker}
 use Rattle.dump.specs.declared.kinds.ErrorName.{ErrorName}
 use Rattle.dump.specs.Heaps as heaps
 use Rattle.dump.specs.Heaps.{Text, Value, Kind, boolean_object, number_object, bigint_object, string_object, plain, sparse, dense, map, set, Part, element, Heap, nobody}
-use Rattle.formed.specs.Formed.{PropertyFormed, EntryFormed, MemberFormed, PartsFormed, ObjectFormed}
+use Rattle.formed.specs.Formed.{PropertyFormed, EntryFormed, MemberFormed, PartsFormed}
 use Rattle.planner.specs.Visits.{object_at}
 use Rattle.evaluator.specs.Stores.{Val, Shape, buffer, error, Slot, keyed, Obj}
 use Rattle.evaluator.specs.Isomorphic.{Pairing, Alike, AlikeKind, AlikeParts, AlikeObject, AllAlike}
 use Rattle.rebuilds.specs.Pending.{a_nil, a_cons, Properties, p_end, p_same, p_waits, Elements, e_end, e_hole, e_same, e_waits, Dense, Bytes, Failure, Pends, Pending, Store, occ}
 use Rattle.pending.proofs.Fronts.{Added, property_added, entry_added, member_added, parts-++, parts_any, front_done}
 use Rattle.effects.specs.Bounded.{Bounded}
-
-pub object_formed : (h : Heap) (o : ℕ) → Bounded h → o < length h.objects → ObjectFormed h (object_at h o)
-object_formed h o f i = All-get_or (ObjectFormed h) h.objects o nobody i f.formed.objects
+use Rattle.effects.proofs.Objects.{formed_at}
 
 -- an element with its slot; nothing is alike to a hole
 pub element_slot : (own : Pairing) (i : ℕ) (v : Value) (w : Val) (ps : List Part) (ss : List Slot) → Alike own v w → AlikeParts own (suc i) ps ss → AlikeParts own i (element v ∷ ps) (keyed (decimal i) w ∷ ss)
@@ -71,7 +69,7 @@ module _ (own : Pairing) (o : ℕ) where
   pends_done h n (heaps.error e message stack) ps sh ss f a = failure_done e message stack ps sh ss a
 
 pub done : (h : Heap) (own : Pairing) (o : ℕ) (x : Obj) → Bounded h → o < length h.objects → Pending h own o [] x → AlikeObject own (object_at h o) x
-done h own o x f i a = pends_done own o h (length h.objects) (object_at h o).kind (object_at h o).parts x.shape x.slots (object_formed h o f i).1 a
+done h own o x f i a = pends_done own o h (length h.objects) (object_at h o).kind (object_at h o).parts x.shape x.slots (formed_at h f o).1 a
 
 all_alike_from : (h : Heap) (own : Pairing) {ps : Pairing} {xs : List Obj} → Bounded h → ((y : ℕ) → 1 ≤ occ y ps → y < length h.objects) → Store h own (λ o. []) ps xs → AllAlike h own ps xs
 all_alike_from h own f n a_nil = tt

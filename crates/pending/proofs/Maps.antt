@@ -18,7 +18,7 @@ use Rattle.pending.proofs.Lists.{all_before, all_behind, pairwise_before}
 use Rattle.pending.proofs.Keys.{keys_apart, kept_plus}
 use Rattle.pending.proofs.Lates.{not_task, task_of}
 use Rattle.pending.proofs.Fronts.{Adds, Added, entry_added, member_added, Next, front_next, next_added}
-use Rattle.pending.proofs.Done.{object_formed}
+use Rattle.effects.proofs.Objects.{formed_at}
 use Rattle.effects.specs.Bounded.{Bounded}
 
 -- a key that differs from those of all entries, and a member from all members
@@ -199,11 +199,11 @@ pub puts_done : (h : Heap) (order : List ℕ) (own : Pairing) (o : ℕ) (K L : L
     (l.ordered ≡ true → ordered_tasks K ≡ []) → Pending h own o (K ++ (l ∷ L)) x → l.task ≡ puts a b → Alike own a wa → Alike own b wb →
     (u : Obj) × ((p : ℕ) (s : State) → set_pair p x.shape x.slots (wa ∷ wb ∷ []) s ≡ made (ref p) (change p u s)) × Pending h own o (K ++ L) u
 puts_done h order own o K L l x a b wa wb f lt i none r task same same' =
-    puts_mended own o K L l a b wa wb task same same' h order (slot h order o) (length h.objects) (object_at h o).kind (object_at h o).parts x.shape x.slots (object_formed h o f lt).1 i none r
+    puts_mended own o K L l a b wa wb task same same' h order (slot h order o) (length h.objects) (object_at h o).kind (object_at h o).parts x.shape x.slots (formed_at h f o).1 i none r
 
 -- a member added: `v.add(a)`
 pub adds_done : (h : Heap) (order : List ℕ) (own : Pairing) (o : ℕ) (K L : List Late) (l : Late) (x : Obj) (a : Value) (w : Val) → Bounded h → o < length h.objects → In l (lates h order o) →
     (l.ordered ≡ true → ordered_tasks K ≡ []) → Pending h own o (K ++ (l ∷ L)) x → l.task ≡ adds a → Alike own a w →
     (u : Obj) × ((p : ℕ) (s : State) → add_one p x.shape x.slots (w ∷ []) s ≡ made (ref p) (change p u s)) × Pending h own o (K ++ L) u
 adds_done h order own o K L l x a w f lt i none r task same =
-    adds_mended own o K L l a w task same h order (slot h order o) (length h.objects) (object_at h o).kind (object_at h o).parts x.shape x.slots (object_formed h o f lt).1 i none r
+    adds_mended own o K L l a w task same h order (slot h order o) (length h.objects) (object_at h o).kind (object_at h o).parts x.shape x.slots (formed_at h f o).1 i none r

@@ -25,7 +25,7 @@ use Rattle.pending.proofs.Slots.{has-++, set-++, set_absent, key_formed, lacks, 
 use Rattle.pending.proofs.Waits.{waits_other, waits_ordered}
 use Rattle.pending.proofs.Properties.{plain_set, array_set}
 use Rattle.pending.proofs.Elements.{elements_waits, elements_lack, has_element, set_elements}
-use Rattle.pending.proofs.Done.{object_formed}
+use Rattle.effects.proofs.Objects.{formed_at}
 use Rattle.effects.specs.Plans.{stack_text}
 use Rattle.effects.specs.Bounded.{Bounded}
 
@@ -239,5 +239,5 @@ pub sets_done : (h : Heap) (order : List ℕ) (own : Pairing) (o : ℕ) (K L : L
     (l.ordered ≡ true → ordered_tasks K ≡ []) → Pending h own o (K ++ (l ∷ L)) x → l.task ≡ sets k v → Alike own v w →
     (u : Obj) × (assigned (key_text k) w x.shape x.slots ≡ Some u) × Pending h own o (K ++ L) u
 sets_done h order own o K L l x k v w f lt i none r task a =
-    let g = object_formed h o f lt in
+    let g = formed_at h f o in
     sets_mended own o K L l k v w task a h order (slot h order o) (length h.objects) (object_at h o).kind (object_at h o).parts x.shape x.slots g.0 g.1 i none r

@@ -22,7 +22,8 @@ use Rattle.rebuilds.specs.Adequate.{Adequate}
 use Rattle.rebuilds.specs.Makes.{written_parts, written_by, written}
 use Rattle.rebuilds.specs.Depths.{deepest, object_depth, depths_all, built_depths, value_depth, task_depth, due_depths, line_depth, line_depths, stmt_depths, none_deep}
 use Rattle.effects.proofs.Options.{cases_option}
-use Rattle.places.proofs.Objects.{view_in_lem, formed_at, view_formed, view_edges, view_group}
+use Rattle.effects.proofs.Objects.{formed_at}
+use Rattle.places.proofs.Objects.{view_in_lem, view_formed, view_edges, view_group}
 use Rattle.places.proofs.Names.{not_backed, resizable_not_backing, named_if, edge_buffer}
 use Rattle.places.proofs.Builts.{at_place, build_length, build_keeps, build_append, built_at}
 use Rattle.effects.specs.Plans.{braced}

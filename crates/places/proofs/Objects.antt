@@ -1,14 +1,13 @@
 -- Every object of a formed heap is formed: a view has one edge, to its buffer, and an object of a kind without references has none.
-use Rattle.std.proofs.Common.{◌≡◌, ℕ, ◌<◌, ◌≤◌, Bool, true, false, List, [], ◌∷◌, length, Some, Option, sym, refl, ap, ◌∙◌, subst, ⊎_elim, arith}
-use Rattle.std.proofs.ByRecursion.{All-get_or}
-use Rattle.std.proofs.lemmas.List.{get_or_past}
-use Rattle.std.proofs.lemmas.Bool.{cases_lt, both_ways}
+use Rattle.std.proofs.Common.{◌≡◌, ℕ, Bool, true, false, List, [], ◌∷◌, length, Some, Option, sym, refl, ap, ◌∙◌, subst, arith}
+use Rattle.std.proofs.lemmas.Bool.{both_ways}
 use Rattle.dump.specs.declared.kinds.ViewKind.{ViewKind}
-use Rattle.dump.specs.Heaps.{Kind, boolean_object, number_object, bigint_object, string_object, regexp, date, plain, sparse, dense, map, set, buffer, view, error, Part, below, nobody, Heap}
-use Rattle.formed.specs.Formed.{ViewFormed, KindFormed, PartsFormed, ObjectFormed}
+use Rattle.dump.specs.Heaps.{Kind, boolean_object, number_object, bigint_object, string_object, regexp, date, plain, sparse, dense, map, set, buffer, view, error, Part, below, Heap}
+use Rattle.formed.specs.Formed.{ViewFormed, KindFormed, PartsFormed}
 use Rattle.planner.specs.Visits.{edges_of, edges, object_at}
 use Rattle.planner.specs.Names.{ViewContent, BufferContent, view_in, buffer_in}
-use Rattle.effects.specs.Bounded.{KindShort, ObjectShort, Bounded}
+use Rattle.effects.specs.Bounded.{Bounded}
+use Rattle.effects.proofs.Objects.{formed_at}
 
 -- a kind without references
 abbrev pub is_bare : Kind → Bool
@@ -78,36 +77,16 @@ bare_none h n (view k offset count tracking) ps f e = absurd (both_ways false re
 bare_none h n (error m message stack) ps f e = absurd (both_ways false refl e)
 
 module _ (h : Heap) (f : Bounded h) where
-  pub object_formed : (o : ℕ) → o < length h.objects → ObjectFormed h (object_at h o)
-  object_formed o lt = All-get_or (ObjectFormed h) h.objects o nobody lt f.formed.objects
-
-  -- also past the last, where nobody stands
-  pub formed_at : (o : ℕ) → ObjectFormed h (object_at h o)
-  formed_at o =
-      ⊎_elim (λ (a : o < length h.objects). object_formed o a)
-      (λ (b : length h.objects ≤ o). subst (ObjectFormed h) (sym (get_or_past h.objects o nobody b)) (tt, (tt, tt)))
-      (cases_lt o (length h.objects))
-
   -- by the kind
   pub kind_formed : (o : ℕ) (k : Kind) → (object_at h o).kind ≡ k → KindFormed k
-  kind_formed o k e = subst KindFormed e (formed_at o).0
+  kind_formed o k e = subst KindFormed e (formed_at h f o).0
 
   pub parts_formed : (o : ℕ) (k : Kind) → (object_at h o).kind ≡ k → PartsFormed h (length h.objects) k (object_at h o).parts
-  parts_formed o k e = subst (λ z. PartsFormed h (length h.objects) z (object_at h o).parts) e (formed_at o).1
-
-  -- a buffer is no longer than a dump has room for
-  short_at : (o : ℕ) → ObjectShort (object_at h o)
-  short_at o =
-      ⊎_elim (λ (a : o < length h.objects). All-get_or ObjectShort h.objects o nobody a f.short)
-      (λ (b : length h.objects ≤ o). subst ObjectShort (sym (get_or_past h.objects o nobody b)) tt)
-      (cases_lt o (length h.objects))
-
-  pub buffer_short : (b : ℕ) (bytes : List ℕ) (maximum : Option ℕ) → (object_at h b).kind ≡ buffer bytes maximum → length bytes ≤ 1048576
-  buffer_short b bytes maximum e = subst KindShort e (short_at b)
+  parts_formed o k e = subst (λ z. PartsFormed h (length h.objects) z (object_at h o).parts) e (formed_at h f o).1
 
   -- a kind without references has no parts
   pub bare_parts : (x : ℕ) → is_bare (object_at h x).kind ≡ true → (object_at h x).parts ≡ []
-  bare_parts x e = bare_none h (length h.objects) (object_at h x).kind (object_at h x).parts (formed_at x).1 e
+  bare_parts x e = bare_none h (length h.objects) (object_at h x).kind (object_at h x).parts (formed_at h f x).1 e
 
   pub bare_edges : (x : ℕ) → is_bare (object_at h x).kind ≡ true → edges h x ≡ []
   bare_edges x e = ap edges_of (bare_parts x e)

@@ -9,14 +9,14 @@ use Rattle.dump.specs.Kinds.{width}
 use Rattle.dump.specs.Heaps as heaps
 use Rattle.dump.specs.Heaps.{Kind, buffer, view, Part, below, nobody, Heap}
 use Rattle.formed.specs.Formed.{KindFormed, PartsFormed, ViewFormed}
-use Rattle.effects.specs.Bounded.{KindShort, ObjectShort, Bounded}
+use Rattle.effects.specs.Bounded.{Bounded}
 use Rattle.script.specs.Texts.{listing}
 use Rattle.evaluator.specs.Makes.{is_typed}
 use Rattle.planner.specs.Visits.{edges_of, edges, object_at, mem}
 use Rattle.planner.specs.Names.{first, is_view, ViewContent, view_in, buffer_in, is_on, spans, covers_buffer, covers, lists_in, kind_or_bytes, data_kind_by, data_kind}
 use Rattle.planner.specs.Lates.{bytes_kind}
 use Rattle.effects.specs.Readable.{Data, IsNumbers}
-use Rattle.readables.proofs.Writes.{all_rows, formed_at}
+use Rattle.effects.proofs.Objects.{formed_at, buffer_short}
 
 -- what the first that passes a test has
 abbrev pub FirstOk : (ℕ → Bool) → Option ℕ → Type 0
@@ -137,11 +137,8 @@ view_of_lem (heaps.view k offset n tracking) e = (record { kind = k; offset = of
 view_of_lem (heaps.error n message stack) e = absurd (both_ways false refl e)
 
 module _ (h : Heap) (f : Bounded h) where
-  short_at : (o : ℕ) → ObjectShort (object_at h o)
-  short_at o = all_rows ObjectShort h.objects o nobody tt f.short
-
   pub bytes_formed : (b : ℕ) (bytes : List ℕ) (maximum : Option ℕ) → (object_at h b).kind ≡ buffer bytes maximum → BytesFormed bytes
-  bytes_formed b bytes maximum e = let g : KindFormed (buffer bytes maximum) = subst KindFormed e (formed_at h f b).0 in (g.0, subst KindShort e (short_at b))
+  bytes_formed b bytes maximum e = let g : KindFormed (buffer bytes maximum) = subst KindFormed e (formed_at h f b).0 in (g.0, buffer_short h f b bytes maximum e)
 
   pub view_formed : (x : ℕ) (k : ViewKind) (offset count : ℕ) (tracking : Bool) → (object_at h x).kind ≡ view k offset count tracking → ViewFormed h k offset count tracking (object_at h x).parts
   view_formed x k offset count tracking e = subst (λ kind. PartsFormed h (length h.objects) kind (object_at h x).parts) e (formed_at h f x).1

@@ -20,7 +20,8 @@ use Rattle.effects.specs.Readable.{Small, MaybeSmall, Data, NoHole, FormReadable
 use Rattle.readables.specs.Writable.{Writable, ElementWritable, PartWritable}
 use Rattle.readables.proofs.Places.{slot_small}
 use Rattle.readables.proofs.Spelled.{spelled, HeapSpelled}
-use Rattle.readables.proofs.Writes.{all_rows, formed_at, parts_at, kind_at_lem}
+use Rattle.effects.proofs.Objects.{all_rows, formed_at}
+use Rattle.readables.proofs.Writes.{parts_at, kind_at_lem}
 use Rattle.readables.proofs.Bytes.{FirstOk, first_ok, ViewFits, BytesFormed, bytes_data, fits_count, bytes_formed, view_formed, kind_data, covers_view}
 
 module _ (numeral : ℕ → Option (List ℕ)) where

@@ -20,7 +20,8 @@ use Rattle.effects.specs.Readable.{Data, IsNumbers, KeyReadable, ExprReadable, S
 use Rattle.readables.specs.Writable.{Writable, ElementWritable, PartWritable}
 use Rattle.readables.proofs.Places.{slot_small}
 use Rattle.readables.proofs.Spelled.{HeapSpelled}
-use Rattle.readables.proofs.Writes.{formed_at, parts_at}
+use Rattle.effects.proofs.Objects.{formed_at}
+use Rattle.readables.proofs.Writes.{parts_at}
 use Rattle.readables.proofs.Bytes.{bytes_formed, octets_data, numbers_listed, listed_data, kind_data}
 use Rattle.readables.proofs.Exprs.{value_readable, built_readable}
 use Rattle.effects.specs.Plans.{stack_text}

@@ -1,23 +1,17 @@
 -- The values and parts of a formed heap whose doubles are spelled may be written.
-use Rattle.std.proofs.Common.{◌≡◌, ℕ, zero, suc, ◌<◌, ◌≤◌, Bool, true, false, List, [], ◌∷◌, length, get_or, take, drop, Option, sym, refl, subst, ⊎_elim, arith}
+use Rattle.std.proofs.Common.{◌≡◌, ℕ, zero, suc, ◌≤◌, Bool, true, false, List, [], ◌∷◌, length, take, drop, Option, sym, refl, subst, ⊎_elim, arith}
 use Rattle.std.specs.List.{AllByRecursion as All}
-use Rattle.std.proofs.ByRecursion.{All-get_or, All-take, All-drop}
-use Rattle.std.proofs.lemmas.List.{get_or_past}
-use Rattle.std.proofs.lemmas.Bool.{cases_lt}
+use Rattle.std.proofs.ByRecursion.{All-take, All-drop}
 use Rattle.dump.specs.Heaps as heaps
 use Rattle.dump.specs.Heaps.{Value, Key, index, name, Kind, Part, entry, Object, nobody, Heap}
-use Rattle.formed.specs.Formed.{ValueFormed, KeyFormed, PropertyFormed, ElementFormed, EntryFormed, MemberFormed, CauseFormed, KindFormed, PartsFormed, ObjectFormed}
+use Rattle.formed.specs.Formed.{ValueFormed, KeyFormed, PropertyFormed, ElementFormed, EntryFormed, MemberFormed, CauseFormed, KindFormed, PartsFormed}
 use Rattle.planner.specs.Visits.{object_at}
 use Rattle.planner.specs.Lines.{value_unspelled, kind_unspelled}
 use Rattle.effects.specs.Readable.{KeyReadable}
 use Rattle.readables.specs.Writable.{Writable, ElementWritable, PartWritable, PartSpelled}
 use Rattle.readables.proofs.Spelled.{spelled, HeapSpelled}
 use Rattle.effects.specs.Bounded.{Bounded}
-
--- what holds of a row of a list holds of every row, if it holds past the last
-pub all_rows : {X : Type 0} (P : X → Type 0) (xs : List X) (i : ℕ) (d : X) → P d → All P xs → P (get_or xs i d)
-all_rows P xs i d past a =
-    ⊎_elim (λ (l : i < length xs). All-get_or P xs i d l a) (λ (l : length xs ≤ i). subst P (sym (get_or_past xs i d l)) past) (cases_lt i (length xs))
+use Rattle.effects.proofs.Objects.{all_rows, formed_at}
 
 -- what two facts of each element give
 all_both : {X : Type 0} (P Q R : X → Type 0) → ((x : X) → P x → Q x → R x) → (xs : List X) → All P xs → All Q xs → All R xs
@@ -34,10 +28,6 @@ all_parts_lem P (suc n) (x ∷ xs) a b = (a.0, all_parts_lem P n xs a.1 b)
 key_readable : (limit : ℕ) (array : Bool) (k : Key) → limit ≤ 4294967296 → KeyFormed limit array k → KeyReadable k
 key_readable limit array (index i) l f = omega arith
 key_readable limit array (name t) l f = f.0
-
--- an object of any number is formed: past the last row it is a plain object without parts
-pub formed_at : (h : Heap) → Bounded h → (o : ℕ) → ObjectFormed h (object_at h o)
-formed_at h f o = all_rows (ObjectFormed h) h.objects o nobody (tt, (tt, tt)) f.formed.objects
 
 module _ (numeral : ℕ → Option (List ℕ)) where
   -- a formed value whose double is spelled

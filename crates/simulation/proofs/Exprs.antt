@@ -14,7 +14,7 @@ use Rattle.effects.specs.Effects.{canonical}
 use Rattle.rebuilds.specs.Adequate.{Adequate}
 use Rattle.rebuilds.specs.Makes.{within, one, expr_makes}
 use Rattle.rebuilds.specs.Good.{Good}
-use Rattle.places.proofs.Objects.{formed_at}
+use Rattle.effects.proofs.Objects.{formed_at}
 use Rattle.places.proofs.Names.{unnamed, backs}
 use Rattle.places.proofs.Builts.{built_at}
 use Rattle.expressions.proofs.Named.{name_good}

@@ -9,7 +9,7 @@ use Rattle.planner.specs.Visits.{object_at}
 use Rattle.planner.specs.Names.{ready_before, slot}
 use Rattle.planner.specs.Lates.{Task, sets, puts, adds, fills, Late, late_properties, late_elements, late_members, late_causes, late_bytes, lates_by, lates}
 use Rattle.rebuilds.specs.Pending.{In, here, there}
-use Rattle.places.proofs.Objects.{formed_at}
+use Rattle.effects.proofs.Objects.{formed_at}
 use Rattle.effects.specs.Plans.{stack_text}
 use Rattle.effects.specs.Bounded.{Bounded}
 
