@@ -3,7 +3,7 @@
 
 ghost use Rattle.counter.specs.Judged.{Judged};
 
-use dump::refusal::Refusal;
+use dump::refusal::{Refusal, Rule, Site};
 use heap_check::checked::Checked;
 use heap_check::heap::Heap;
 use reads::object::Kind;
@@ -15,8 +15,8 @@ use std::{fmt, io};
 const LIMIT: usize = 65_536;
 
 const TOO_LONG: Refusal = Refusal {
-    number: 2,
-    section: 0,
+    rule: Rule::Count,
+    site: Site::Dump,
     record: 0,
 };
 
@@ -96,6 +96,6 @@ fn main(rt: HostRuntime) -> io::Result<()> {
     rt.stdin().take(LIMIT as u64 + 1).read_to_end(&mut dump)?;
     match judge(dump.as_slice()) {
         Ok(summary) => println!(rt; "accepted {summary}"),
-        Err(no) => println!(rt; "refused {} {} {}", no.number, no.section, no.record),
+        Err(no) => println!(rt; "refused {no}"),
     }
 }

@@ -1,5 +1,7 @@
 -- The first record that is refused, and tests below a number.
-use Rattle.std.proofs.Common.{◌≡◌, ℕ, zero, suc, ◌+◌, ◌<◌, Bool, true, false, List, [], ◌∷◌, is_ok, Ok, Err, Result, refl, ⊎_elim, add-one, arith}
+use Rattle.std.proofs.Common.{◌≡◌, ℕ, zero, suc, ◌+◌, ◌<◌, Bool, true, false, cond, ◌||◌, List, [], ◌∷◌, map, is_ok, Ok, Err, Result, refl, sym, ap, ◌∙◌, subst, ⊎_elim, add-one, arith}
+use Rattle.std.specs.List.{range_with_len, list_any, sum}
+use Rattle.std.proofs.lemmas.List.FromFn.{sum_by-map-range_with_len_more}
 use Rattle.std.proofs.lemmas.Bool.{cases_eq, both_ways}
 use Rattle.dump.specs.declared.refusal.Refusal.{Refusal}
 use Rattle.dump.specs.Rules.{Verdict, Rule, rule, judge, Hold, and_then, each, any_below}
@@ -52,19 +54,41 @@ module _ (f : ℕ → Verdict) where
 
 -- below n none passes
 module _ (p : ℕ → Bool) where
-  pub any_none : (i : ℕ) → any_below p i ≡ false → p i ≡ false → any_below p (i + 1) ≡ false
-  any_none i h e = rw (add-one, h) e
-
-  pub any_found : (i n : ℕ) → any_below p i ≡ false → p i ≡ true → i < n → any_below p n ≡ true
-  any_found i zero h r l = absurd (omega arith)
-  any_found i (suc n) h r l =
-      ⊎_elim
-      (λ (same : i ≡ n). rw (← same, h) r)
-      (λ (apart : i ≡ n → ⊥). rw (any_found i n h r (omega arith)) refl)
-      (cases_eq i n)
-
   pub none_passes : (n k : ℕ) → any_below p n ≡ false → k < n → p k ≡ false
   none_passes zero k h l = absurd (omega arith)
   none_passes (suc n) k h l =
       let e : (any_below p n ≡ false) × (p n ≡ false) = grind arith in
       ⊎_elim (λ (same : k ≡ n). rw same e.1) (λ (apart : k ≡ n → ⊥). none_passes n k e.0 (omega arith)) (cases_eq k n)
+
+-- the tests below n, as a test of the numbers below n
+any_last : (p : ℕ → Bool) (a n : ℕ) → list_any p (range_with_len a (suc n)) ≡ (list_any p (range_with_len a n) || p (a + n))
+any_last p a zero = let e : a + 0 ≡ a = omega arith in rw e (or_none (p a))
+  where
+    or_none : (x : Bool) → ◌≡◌ {A = Bool} (x || false) (false || x)
+    or_none true = refl
+    or_none false = refl
+any_last p a (suc n) =
+    let e : a + suc n ≡ a + 1 + n = omega arith in
+    rw (any_last p (a + 1) n, e) (or_more (p a) (list_any p (range_with_len (a + 1) n)) (p (a + 1 + n)))
+  where
+    or_more : (x y z : Bool) → ◌≡◌ {A = Bool} (x || (y || z)) ((x || y) || z)
+    or_more true y z = refl
+    or_more false y z = refl
+
+pub any_in_range : (p : ℕ → Bool) (n : ℕ) → list_any p (range_with_len 0 n) ≡ any_below p n
+any_in_range p zero = refl
+any_in_range p (suc n) = let e : 0 + n ≡ n = omega arith in any_last p 0 n ∙ rw (any_in_range p n, e) (or_cond (any_below p n) (p n))
+  where
+    or_cond : (x y : Bool) → ◌≡◌ {A = Bool} (x || y) (cond x true y)
+    or_cond true y = refl
+    or_cond false y = refl
+
+next : (n : ℕ) → ◌≡◌ {A = ℕ} (suc n) (n + 1)
+next n = omega arith
+
+-- what is added up place by place is the sum of the numbers below n
+pub sum_in_range : (f g : ℕ → ℕ) → g 0 ≡ 0 → ((i : ℕ) → g (i + 1) ≡ g i + f i) → (n : ℕ) → sum (map f (range_with_len 0 n)) ≡ g n
+sum_in_range f g none more zero = sym none
+sum_in_range f g none more (suc n) =
+    subst (λ m. sum (map f (range_with_len 0 m)) ≡ g m) (sym (next n))
+    (sum_by-map-range_with_len_more (λ x. x) f 0 n n (omega arith) ∙ ap (λ k. k + f n) (sum_in_range f g none more n) ∙ sym (more n))

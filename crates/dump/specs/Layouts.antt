@@ -47,14 +47,3 @@ pub record Laid (b : List ℕ) (l : Layout) : Type 0 where
   pub few_octets : l.octets.count ≤ 1048576
   pub few_objects : l.objects.count ≤ 4096
   pub few_parts : l.parts.count ≤ 65536
-
--- a layout as numbers, none for a refusal
-abbrev pub numbers : Layout → List ℕ
-numbers l =
-    l.texts.start ∷ l.texts.count ∷ l.units.start ∷ l.units.count ∷ l.numerals.start ∷ l.numerals.count
-    ∷ l.octets.start ∷ l.octets.count ∷ l.objects.start ∷ l.objects.count ∷ l.parts.start ∷ l.parts.count
-    ∷ l.root.start ∷ l.root.count ∷ []
-
-abbrev pub numbers_of : Result Layout Refusal → List ℕ
-numbers_of (Ok l) = numbers l
-numbers_of (Err e) = []

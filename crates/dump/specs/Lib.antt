@@ -1,8 +1,11 @@
+pub mod Refusals
+pub mod Tellings
 pub mod Bytes
 pub mod Rules
 pub mod Layouts
 pub mod Kinds
 pub mod Places
 pub mod Raws
+pub mod Texts
 pub mod Heaps
 pub mod Meaning

@@ -1,7 +1,8 @@
 // Numbers in a dump, low byte first.
 ghost use Rattle.std.specs.Prelude.{◌≡◌, ◌+◌, ◌≤◌, true, length};
 ghost use Rattle.std.proofs.Math.Pow.{are_bytes};
-ghost use Rattle.dump.specs.Bytes.{word as word_at, unit as unit_at};
+ghost use Rattle.dump.specs.Bytes.{word as word_at};
+ghost use Rattle.dump.specs.Meaning.{joined as joined_of};
 
 // The word of 4 bytes at `p`.
 pub fn word(dump: &[u8], p: usize) -> u32
@@ -11,12 +12,11 @@ pub fn word(dump: &[u8], p: usize) -> u32
     u32::from_le_bytes([dump[p], dump[p + 1], dump[p + 2], dump[p + 3]])
 }
 
-// The unit of 2 bytes at `p`.
-pub fn unit(dump: &[u8], p: usize) -> u16
-    requires { p + 2 ≤ length dump.now }
-    ensures { result ≡ unit_at dump.now p }
+// A low and a high word as one number.
+pub fn joined(low: u32, high: u32) -> u64
+    ensures { result ≡ joined_of low high }
 {
-    u16::from_le_bytes([dump[p], dump[p + 1]])
+    u64::from(low) + u64::from(high) * 0x1_0000_0000
 }
 
 // Every byte is below 256: a loop of no effect, which tells that of a whole slice.

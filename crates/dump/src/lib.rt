@@ -7,4 +7,5 @@ pub mod layout;
 pub mod raw;
 pub mod refusal;
 pub mod row;
+pub mod text;
 pub mod walk;

@@ -1,7 +1,7 @@
 // The records of the sections of objects, parts and the root, as words.
 
 // A value: what it is, and two words of content.
-#[derive(Clone, Copy)]
+#[derive(Clone, Copy, Debug, PartialEq, Eq)]
 pub struct Cell {
     pub tag: u32,
     pub low: u32,
@@ -19,7 +19,7 @@ pub struct Row {
     pub e: u32,
 }
 
-// A run of units: the byte where it begins, and how many units it has.
+// A run of units: the byte where it begins, and how many units it has. It may leave the dump: one that lies in it is a `Text`.
 #[derive(Clone, Copy)]
 pub struct Run {
     pub start: usize,

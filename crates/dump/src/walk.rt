@@ -1,43 +1,87 @@
 // The walk over the sections: counts and lengths.
 ghost use Rattle.std.specs.Prelude.{◌≡◌, ℕ, ◌+◌, ◌*◌, ◌<◌, ◌≤◌, length, IfOk};
 ghost use Rattle.dump.specs.Layouts.{section_at, Within, layout_of, Laid};
+ghost use Rattle.dump.specs.Refusals.{site_number};
 
 use super::bytes::word;
 use super::layout::{Layout, Section};
-use super::refusal::Refusal;
+use super::refusal::{Refusal, Rule, Site};
 
-// The section whose count stands at `p`, with `least` to `limit` records of `size` bytes.
-fn section(
-    dump: &[u8],
-    number: u8,
-    p: usize,
+// How many records a section has at least and at most, and how many bytes each.
+#[derive(Clone, Copy)]
+struct Bounds {
+    site: Site,
     least: usize,
-    limit: usize,
+    most: usize,
     size: usize,
-) -> Result<Section, Refusal>
-    requires begins { p ≤ length dump.now }
-    requires small { (limit ≤ 1048576) × (size ≤ 24) }
-    ensures is { result ≡ section_at dump.now number p least limit size }
-    ensures within { IfOk result (Within dump.now p least limit size) }
+    ghost few: { most ≤ 1048576 },
+    ghost small: { size ≤ 24 },
+}
+
+const TEXTS: Bounds = Bounds {
+    site: Site::Texts,
+    least: 0,
+    most: 8_192,
+    size: 8,
+};
+
+const UNITS: Bounds = Bounds {
+    site: Site::Units,
+    least: 0,
+    most: 1_048_576,
+    size: 2,
+};
+
+const NUMERALS: Bounds = Bounds {
+    site: Site::Numerals,
+    least: 0,
+    most: 4_096,
+    size: 12,
+};
+
+const OCTETS: Bounds = Bounds {
+    site: Site::Octets,
+    least: 0,
+    most: 1_048_576,
+    size: 1,
+};
+
+const OBJECTS: Bounds = Bounds {
+    site: Site::Objects,
+    least: 0,
+    most: 4_096,
+    size: 24,
+};
+
+const PARTS: Bounds = Bounds {
+    site: Site::Parts,
+    least: 0,
+    most: 65_536,
+    size: 24,
+};
+
+const ROOT: Bounds = Bounds {
+    site: Site::Root,
+    least: 1,
+    most: 1,
+    size: 12,
+};
+
+// The section whose count stands at `p`.
+fn section(dump: &[u8], p: usize, bounds: Bounds) -> Result<Section, Refusal>
+    requires { p ≤ length dump.now }
+    ensures is { result ≡ section_at dump.now (site_number bounds.site) p bounds.least bounds.most bounds.size }
+    ensures within { IfOk result (Within dump.now p bounds.least bounds.most bounds.size) }
 {
-    let early = Refusal {
-        number: 1,
-        section: number,
-        record: 0,
-    };
     if dump.len() - p < 4 {
-        return Err(early);
+        return Err(Refusal::at(Rule::Length, bounds.site, 0));
     }
     let count = word(dump, p) as usize;
-    if limit < count || count < least {
-        return Err(Refusal {
-            number: 2,
-            section: number,
-            record: 0,
-        });
+    if bounds.most < count || count < bounds.least {
+        return Err(Refusal::at(Rule::Count, bounds.site, 0));
     }
-    if dump.len() - p - 4 < count * size {
-        return Err(early);
+    if dump.len() - p - 4 < count * bounds.size {
+        return Err(Refusal::at(Rule::Length, bounds.site, 0));
     }
     Ok(Section {
         start: p + 4,
@@ -50,19 +94,19 @@ pub fn walk(dump: &[u8]) -> Result<Layout, Refusal>
     ensures is { result ≡ layout_of dump.now }
     ensures within { IfOk result (Laid dump.now) }
 {
-    let texts = section(dump, 1, 0, 0, 8192, 8)?;
-    let units = section(dump, 2, texts.start + texts.count * 8, 0, 1048576, 2)?;
-    let numerals = section(dump, 3, units.start + units.count * 2, 0, 4096, 12)?;
-    let octets = section(dump, 4, numerals.start + numerals.count * 12, 0, 1048576, 1)?;
-    let objects = section(dump, 5, octets.start + octets.count, 0, 4096, 24)?;
-    let parts = section(dump, 6, objects.start + objects.count * 24, 0, 65536, 24)?;
-    let root = section(dump, 7, parts.start + parts.count * 24, 1, 1, 12)?;
-    if dump.len() != root.start + root.count * 12 {
-        return Err(Refusal {
-            number: 1,
-            section: 7,
-            record: 0,
-        });
+    let texts = section(dump, 0, TEXTS)?;
+    let units = section(dump, texts.start + texts.count * TEXTS.size, UNITS)?;
+    let numerals = section(dump, units.start + units.count * UNITS.size, NUMERALS)?;
+    let octets = section(
+        dump,
+        numerals.start + numerals.count * NUMERALS.size,
+        OCTETS,
+    )?;
+    let objects = section(dump, octets.start + octets.count * OCTETS.size, OBJECTS)?;
+    let parts = section(dump, objects.start + objects.count * OBJECTS.size, PARTS)?;
+    let root = section(dump, parts.start + parts.count * PARTS.size, ROOT)?;
+    if dump.len() != root.start + root.count * ROOT.size {
+        return Err(Refusal::at(Rule::Length, Site::Root, 0));
     }
     Ok(Layout {
         texts,

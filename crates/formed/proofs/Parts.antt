@@ -1,5 +1,5 @@
 -- The parts of a sound dump are well formed in each of their roles.
-use Rattle.std.proofs.Common.{◌≡◌, ℕ, zero, suc, ◌+◌, ◌-◌, ◌<◌, Bool, true, false, not, ◌&&◌, eqb, ltb, ◌⊎◌, List, map, is_some, codes, sym, refl, ◌∙◌, subst, inl, inr, ⊎_elim, arith}
+use Rattle.std.proofs.Common.{◌≡◌, ℕ, zero, suc, ◌+◌, ◌-◌, ◌<◌, Bool, true, false, not, ◌&&◌, eqb, ltb, ◌⊎◌, List, map, is_some, Option, codes, sym, refl, ◌∙◌, subst, inl, inr, ⊎_elim, arith}
 use lib.Pow.{are_bytes}
 use Rattle.std.specs.List.{range_with_len, AllByRecursion as All}
 use Rattle.std.proofs.lemmas.Bool.{cases_Bool, cond-true, cond-false, and_parts, or_parts, not-true, ltb-true, eqb-true, ne_eqb, both_ways, and_from, eq-eqb}
@@ -16,7 +16,7 @@ use Rattle.numeral.proofs.Laws.{same_units_lem}
 use Rattle.shapes.specs.Cells.{place_ok, same_zero, minus_zero}
 use Rattle.rules.specs.declared.role.Role.TheVariants.{Property, Element, Entry, Member, Cause}
 use Rattle.rules.specs.declared.role.PartRun.{PartRun}
-use Rattle.rules.specs.Parts.{may_be_hole, named, reserved, index_ok, name_ok, property_ok, part_rules}
+use Rattle.rules.specs.Parts.{may_be_hole, named, reserved, limit_of, index_ok, name_ok, property_ok, part_rules}
 use Rattle.formed.specs.Sound.{Sound}
 use Rattle.formed.specs.Formed.{Pairwise, KeyFormed, KeyBefore, Kept, PropertyFormed, ElementFormed, EntryFormed, MemberFormed, CauseFormed, PropertyBefore, EntryApart, MemberApart, Properties, SameValueZero}
 use Rattle.formed.proofs.Lists.{all_counting, pairwise_counting}
@@ -70,9 +70,15 @@ module _ (b : List ℕ) (l : Layout) (bytes : are_bytes b ≡ true) (s : Sound b
   key_index c e = cond-false (eqb c.tag 7) (name (text_of b l c.low)) (index c.low) e
 
   -- properties
-  module _ (limit : ℕ) (array : Bool) (first count : ℕ) (holds : (k : ℕ) → k < count → Hold (part_rules b l (record { role = Property limit array; first = first; count = count }) k)) where
+  module _ (size : Option ℕ) (first count : ℕ) (holds : (k : ℕ) → k < count → Hold (part_rules b l (record { role = Property size; first = first; count = count }) k)) where
     abbrev cell : ℕ → Cell
     cell k = key_at b l (first + k)
+
+    abbrev limit : ℕ
+    limit = limit_of size
+
+    abbrev array : Bool
+    array = is_some size
 
     rule7 : (k : ℕ) → k < count → property_ok b l limit array first k ≡ true
     rule7 k g = (holds k g).1.1.1.0
@@ -148,8 +154,8 @@ module _ (b : List ℕ) (l : Layout) (bytes : are_bytes b ≡ true) (s : Sound b
             (λ same.
             let there : i < count = omega arith in
             let z = none_passes (λ k. named b l (cell j).low (first + k)) j i (name_parts j g e).2 h in
-            let p = name_there (cell i) f (key_placed (record { role = Property limit array; first = first; count = count }) i (holds i there)).place in
-            let q = name_there (cell j) e (key_placed (record { role = Property limit array; first = first; count = count }) j (holds j g)).place in
+            let p = name_there (cell i) f (key_placed (record { role = Property size; first = first; count = count }) i (holds i there)).place in
+            let q = name_there (cell j) e (key_placed (record { role = Property size; first = first; count = count }) j (holds j g)).place in
             let t = same_text b l s (cell i).low (cell j).low p q same in
             both_ways (named b l (cell j).low (first + i)) z (and_from (eqb (cell i).tag 7) (eqb (cell i).low (cell j).low) f (eq-eqb (cell i).low (cell j).low t)))
 
@@ -160,7 +166,7 @@ module _ (b : List ℕ) (l : Layout) (bytes : are_bytes b ≡ true) (s : Sound b
         value_of b l (value_at b l (first + k)),
         refl,
         key_formed k g,
-        value_formed b l bytes (value_at b l (first + k)) (value_placed (record { role = Property limit array; first = first; count = count }) k (holds k g)),
+        value_formed b l bytes (value_at b l (first + k)) (value_placed (record { role = Property size; first = first; count = count }) k (holds k g)),
       )),
       pairwise_counting PropertyBefore (property_at b l) first count (λ i j h g k k' v v' e f.
           let x : key_of b l (cell i) ≡ k = cc in

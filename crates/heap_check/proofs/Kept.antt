@@ -3,7 +3,6 @@ use Rattle.std.proofs.Common.{◌≡◌, ℕ, true, List, is_ok, Ok, Err, Result
 use Rattle.dump.specs.declared.refusal.Refusal.{Refusal}
 use Rattle.dump.specs.declared.layout.Layout.{Layout}
 use Rattle.dump.specs.Heaps.{Heap as Meant}
-use Rattle.dump.specs.Layouts.{layout_of, numbers, numbers_of}
 use Rattle.rules.specs.Verdicts.{verdict}
 use Rattle.formed.specs.Formed.{Formed}
 use Rattle.formed.proofs.Heaps as heaps
@@ -13,38 +12,11 @@ use Rattle.heap_check.specs.declared.heap.Heap.{Heap}
 use Rattle.heap_check.specs.Heaps.{model, Answers}
 use Rattle.heap_check.specs.Exact.{Exactly}
 
-same_layout : (x : Result Layout Refusal) (l : Layout) → numbers_of x ≡ numbers l → x ≡ Ok l
-same_layout (Err e) l h = absurd (let z : ◌≡◌ {A = ℕ} 0 1 = cc in omega arith)
-same_layout (Ok k) l h =
-    let a : k.texts.start ≡ l.texts.start = cc in
-    let b : k.texts.count ≡ l.texts.count = cc in
-    let c : k.units.start ≡ l.units.start = cc in
-    let d : k.units.count ≡ l.units.count = cc in
-    let e : k.numerals.start ≡ l.numerals.start = cc in
-    let f : k.numerals.count ≡ l.numerals.count = cc in
-    let g : k.octets.start ≡ l.octets.start = cc in
-    let m : k.octets.count ≡ l.octets.count = cc in
-    let n : k.objects.start ≡ l.objects.start = cc in
-    let o : k.objects.count ≡ l.objects.count = cc in
-    let p : k.parts.start ≡ l.parts.start = cc in
-    let q : k.parts.count ≡ l.parts.count = cc in
-    let r : k.root.start ≡ l.root.start = cc in
-    let s : k.root.count ≡ l.root.count = cc in
-    λ i. Ok (record {
-      texts = record { start = a i; count = b i };
-      units = record { start = c i; count = d i };
-      numerals = record { start = e i; count = f i };
-      octets = record { start = g i; count = m i };
-      objects = record { start = n i; count = o i };
-      parts = record { start = p i; count = q i };
-      root = record { start = r i; count = s i };
-    })
-
 pub accepted : (h : Checked) → verdict h.raw.dump.now ≡ Ok (model h)
 accepted h =
     let b = h.raw.dump.now in
     let l = h.raw.layout in
-    (verdicts.every b (model h)).1 (l, same_layout (layout_of b) l h.laid, verdicts.sound b l h.sound, refl)
+    (verdicts.every b (model h)).1 (l, h.laid, verdicts.sound b l h.sound, refl)
 
 pub formed : (h : Checked) → Formed (model h)
 formed h = heaps.every h.raw.dump.now (model h) h.bytes (accepted h)

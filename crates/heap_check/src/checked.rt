@@ -1,7 +1,8 @@
 // A dump that was found sound, read in place.
-ghost use Rattle.std.specs.Prelude.{◌≡◌, true, is_ok};
+ghost use Rattle.std.specs.Prelude.{◌≡◌, true, is_ok, Ok};
+ghost use Rattle.std.proofs.Props.{props};
 ghost use Rattle.std.proofs.Math.Pow.{are_bytes};
-ghost use Rattle.dump.specs.Layouts.{layout_of, numbers_of, numbers};
+ghost use Rattle.dump.specs.Layouts.{layout_of};
 ghost use Rattle.rules.specs.Verdicts.{rows_of};
 
 use dump::raw::Raw;
@@ -13,6 +14,6 @@ mod readers;
 pub struct Checked<'a> {
     pub raw: Raw<'a>,
     ghost bytes: { are_bytes raw.dump.now ≡ true },
-    ghost laid: { numbers_of (layout_of raw.dump.now) ≡ numbers raw.layout },
+    ghost laid: { layout_of raw.dump.now ≡ Ok raw.layout } by { Prim.hlevel props },
     ghost sound: { is_ok (rows_of raw.dump.now raw.layout) ≡ true },
 }

@@ -5,7 +5,7 @@ ghost use Rattle.numbers.specs.declared.fault.NumberFault.TheVariants.{Sinking, 
 use sink::SinkFault;
 use speller::fault::SpellFault;
 
-#[derive(Clone, Copy)]
+#[derive(Clone, Copy, PartialEq, Eq, Debug)]
 pub enum NumberFault {
     Sinking(SinkFault),
     Spelling(SpellFault),

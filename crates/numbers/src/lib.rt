@@ -4,7 +4,7 @@
 ghost use Rattle.numbers.specs.Sent.{Sent};
 
 use sink::{Sink, put_all};
-use speller::spelling::Speller;
+use speller::spelling::{LONGEST_NUMERAL, Speller};
 
 pub mod fault;
 
@@ -14,12 +14,11 @@ use fault::NumberFault;
 pub fn put_number<S: Speller, K: Sink>(
     speller: &S,
     bits: u64,
-    scratch: &mut [u8; 400],
+    scratch: &mut [u8; LONGEST_NUMERAL],
     sink: &mut K,
 ) -> Result<(), NumberFault>
     ensures { Sent K.Sink.means sink.old (S.Speller.means speller.now bits) result sink.new }
 {
-    let _ = S::most();
     let n = speller.spell(bits, scratch)?;
     put_all(sink, &scratch[0..n])?;
     Ok(())

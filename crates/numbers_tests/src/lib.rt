@@ -7,7 +7,7 @@ ghost use Rattle.numbers_tests.specs.Held.{Counted};
 use numbers::fault::NumberFault;
 use numbers::put_number;
 use sink::{Counter, Page};
-use speller::spelling::Speller;
+use speller::spelling::{LONGEST_NUMERAL, Speller};
 
 #[cfg(test)]
 mod tests;
@@ -16,13 +16,14 @@ mod tests;
 pub fn count_number<S: Speller>(speller: &S, bits: u64, space: u64) -> Result<u64, NumberFault>
     ensures { Counted (S.Speller.means speller.now bits) space result }
 {
-    let mut scratch = [0u8; 400];
+    let mut scratch = [0u8; LONGEST_NUMERAL];
     let mut counter = Counter::new(space);
     put_number(speller, bits, &mut scratch, &mut counter)?;
     Ok(counter.count())
 }
 
-// How many bytes of lent memory a number takes, as a page.
+// How many bytes of lent memory a number takes, as a page. One function for both ends would need a trait
+// with what is counted at each.
 pub fn page_number<S: Speller>(
     speller: &S,
     bits: u64,
@@ -30,7 +31,7 @@ pub fn page_number<S: Speller>(
 ) -> Result<usize, NumberFault>
     ensures { Counted (S.Speller.means speller.now bits) (length memory.old) result }
 {
-    let mut scratch = [0u8; 400];
+    let mut scratch = [0u8; LONGEST_NUMERAL];
     let mut page = Page::new(memory);
     put_number(speller, bits, &mut scratch, &mut page)?;
     Ok(page.len())

@@ -34,7 +34,7 @@ before_transitive (x ∷ xs) (y ∷ ys) (z ∷ zs) h g = let t = before_transiti
 five_parts : (v w x y z : Bool) → (v && (w && (x && (y && z)))) ≡ true → (v ≡ true) × (w ≡ true) × (x ≡ true) × (y ≡ true) × (z ≡ true)
 five_parts v w x y z h = (grind arith, grind arith, grind arith, grind arith, grind arith)
 
--- the parts of a pair
+-- the parts of a pair, for the crates above
 module _ (bits : ℕ) (t : List ℕ) (h : is_pair bits t ≡ true) where
   parts : (finite bits ≡ true) × (leb (length t) 400 ≡ true) × (is_numeral t ≡ true) × (same (minus t) (signed bits) ≡ true) × (is_double (minus t) (whole_of t) bits ≡ true)
   parts = five_parts (finite bits) (leb (length t) 400) (is_numeral t) (same (minus t) (signed bits)) (is_double (minus t) (whole_of t) bits) h
@@ -69,7 +69,7 @@ digit_units (c ∷ cs) h =
     let q = and_parts (leb 48 c) (leb c 57) p.0 in
     (inr (inr (leb-true 48 c q.0, leb-true c 57 q.1)), digit_units cs p.1)
 
-whole_digits_lem : (t : List ℕ) → whole_digits t ≡ true → are_digits t ≡ true
+pub whole_digits_lem : (t : List ℕ) → whole_digits t ≡ true → are_digits t ≡ true
 whole_digits_lem [] h = refl
 whole_digits_lem (c ∷ []) h = grind (arith, nat_tests)
 whole_digits_lem (c ∷ d ∷ ds) h = grind (arith, nat_tests)

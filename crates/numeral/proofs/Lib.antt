@@ -1,4 +1,3 @@
-pub mod Runs
 pub mod Values
 pub mod Points
 pub mod Orders

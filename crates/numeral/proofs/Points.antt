@@ -1,42 +1,42 @@
--- Runs of units before and behind the first point.
-use Rattle.std.proofs.Common.{◌≡◌, ℕ, zero, suc, ◌+◌, ◌-◌, ◌*◌, ◌<◌, ◌≤◌, true, false, cond, eqb, ltb, List, [], ◌∷◌, length, Some, None, Option, sym, refl, ap, ◌∙◌, arith}
-use Rattle.std.proofs.lemmas.Bool.{lt-ltb, cond-true}
+-- Texts before and behind the first point.
+use Rattle.std.proofs.Common.{◌≡◌, ℕ, suc, ◌+◌, ◌-◌, true, false, not, eqb, ltb, cond, List, [], ◌∷◌, length, take, drop, map, Some, None, position, sym, refl, ap, ◌∙◌, arith}
+use Rattle.std.specs.List.{position_or_len, before_first, after_first}
+use Rattle.std.proofs.lemmas.Bool.{lt-ltb, ltb-false}
 use Rattle.std.proofs.lemmas.Bool.Decides.{nat_tests}
-use Rattle.dump.specs.Bytes.{unit, units_at}
+use Rattle.std.proofs.lemmas.List.{take_all, take-map, drop-map, length-drop}
+use Rattle.std.specs.Option.{option_map, option_map_or}
+use Rattle.dump.specs.Texts.{little}
 use Rattle.numeral.specs.Numerals.{before_point, after_point}
-use Rattle.numeral.proofs.Runs.{rest, rest_more, rest_done}
 
-module _ (b : List ℕ) (p n k : ℕ) where
-  pub point_more : k < n → length (before_point (rest b p n k)) ≡ cond (eqb (unit b (p + k * 2)) 46) 0 (suc (length (before_point (rest b p n (k + 1)))))
-  point_more h = ap (λ t. length (before_point t)) (rest_more b p n k h) ∙ grind (arith, nat_tests)
+front : (t : List ℕ) → before_point t ≡ before_first (λ c. eqb c 46) t
+front [] = refl
+front (c ∷ cs) =
+    let n = position_or_len (λ c. eqb c 46) cs in
+    let e : 1 + n ≡ suc n = omega arith in
+    elim (eqb c 46) as (λ b. cond b [] (c ∷ before_point cs) ≡ take (cond (not b) (1 + n) 0) (c ∷ cs))
+    [ true ↦ refl | false ↦ rw e (ap (λ t. c ∷ t) (front cs)) ]
 
-  pub point_done : n ≤ k → length (before_point (rest b p n k)) ≡ 0
-  point_done h = ap (λ t. length (before_point t)) (rest_done b p n k h)
+behind : (t : List ℕ) → after_point t ≡ cond (ltb (position_or_len (λ c. eqb c 46) t) (length t)) (Some (after_first (λ c. eqb c 46) t)) None
+behind [] = refl
+behind (c ∷ cs) =
+    let n = position_or_len (λ c. eqb c 46) cs in
+    let e : ltb (1 + n) (suc (length cs)) ≡ ltb n (length cs) = grind (arith, nat_tests) in
+    let f : 1 + n + 1 ≡ suc (n + 1) = omega arith in
+    elim (eqb c 46) as (λ b. cond b (Some cs) (after_point cs) ≡ (let k : ℕ = cond (not b) (1 + n) 0 in cond (ltb k (suc (length cs))) (Some (drop (k + 1) (c ∷ cs))) None))
+    [ true ↦ rw (lt-ltb 0 (suc (length cs)) (omega arith)) refl | false ↦ rw (e, f) (behind cs) ]
 
-pub before_point_lem : (b : List ℕ) (p n : ℕ) → before_point (units_at b p n) ≡ units_at b p (length (before_point (units_at b p n)))
-before_point_lem b p zero = refl
-before_point_lem b p (suc n) =
-    elim (eqb (unit b p) 46) as (λ t. let u : List ℕ = cond t [] (unit b p ∷ before_point (units_at b (p + 2) n)) in u ≡ units_at b p (length u))
-    [ true ↦ refl | false ↦ ap (λ t. unit b p ∷ t) (before_point_lem b (p + 2) n) ]
+module _ (ps : List (List ℕ)) where
+  abbrev n : ℕ
+  n = position_or_len (λ c. eqb c 46) (map little ps)
 
--- the units behind the unit k of a run, if there is one
-abbrev pub behind : List ℕ → ℕ → ℕ → ℕ → Option (List ℕ)
-behind b p n k = cond (ltb k n) (Some (units_at b (p + (k + 1) * 2) (n - (k + 1)))) None
+  -- by the place of the first point
+  pub before_point_at : before_point (map little ps) ≡ option_map_or (λ k. map little (take k ps)) (position (λ c. eqb c 46) (map little ps)) (map little ps)
+  before_point_at =
+      elim (ltb n (length (map little ps))) as (λ t. ltb n (length (map little ps)) ≡ t → before_point (map little ps) ≡ option_map_or (λ k. map little (take k ps)) (cond t (Some n) None) (map little ps))
+      [ true ↦ λ h. front (map little ps) ∙ take-map little n ps | false ↦ λ h. front (map little ps) ∙ take_all n (map little ps) (ltb-false n (length (map little ps)) h) ] refl
 
-behind_first : (b : List ℕ) (p n : ℕ) → Some (units_at b (p + 2) n) ≡ behind b p (suc n) 0
-behind_first b p n =
-    let e : p + (0 + 1) * 2 ≡ p + 2 = omega arith in
-    let f : suc n - (0 + 1) ≡ n = omega arith in
-    rw (e, f) (sym (cond-true (ltb 0 (suc n)) _ None (lt-ltb 0 (suc n) (omega arith))))
-
-behind_more : (b : List ℕ) (p n k : ℕ) → behind b (p + 2) n k ≡ behind b p (suc n) (suc k)
-behind_more b p n k =
-    let e : p + (suc k + 1) * 2 ≡ p + 2 + (k + 1) * 2 = omega arith in
-    let f : suc n - (suc k + 1) ≡ n - (k + 1) = omega arith in
-    rw (e, f) (grind (arith, nat_tests))
-
-pub after_point_lem : (b : List ℕ) (p n : ℕ) → after_point (units_at b p n) ≡ behind b p n (length (before_point (units_at b p n)))
-after_point_lem b p zero = refl
-after_point_lem b p (suc n) =
-    elim (eqb (unit b p) 46) as (λ t. cond t (Some (units_at b (p + 2) n)) (after_point (units_at b (p + 2) n)) ≡ behind b p (suc n) (length (cond t [] (unit b p ∷ before_point (units_at b (p + 2) n)))))
-    [ true ↦ behind_first b p n | false ↦ after_point_lem b (p + 2) n ∙ behind_more b p n (length (before_point (units_at b (p + 2) n))) ]
+  pub after_point_at : after_point (map little ps) ≡ option_map (λ k. map little (take (length ps - (k + 1)) (drop (k + 1) ps))) (position (λ c. eqb c 46) (map little ps))
+  after_point_at =
+      let cut = take_all (length ps - (n + 1)) (drop (n + 1) ps) (omega (arith, length-drop (n + 1) ps)) in
+      behind (map little ps) ∙ elim (ltb n (length (map little ps))) as (λ t. cond t (Some (drop (n + 1) (map little ps))) None ≡ option_map (λ k. map little (take (length ps - (k + 1)) (drop (k + 1) ps))) (cond t (Some n) None))
+      [ true ↦ ap Some (drop-map little (n + 1) ps ∙ sym (ap (map little) cut)) | false ↦ refl ]

@@ -1,27 +1,28 @@
--- Runs of digits, and the numbers that they are.
-use Rattle.std.proofs.Common.{◌≡◌, ℕ, zero, suc, ◌+◌, ◌-◌, ◌*◌, ◌<◌, ◌≤◌, true, ◌&&◌, eqb, ltb, List, [], ◌∷◌, refl, ap, arith}
+-- Texts of digits, and the numbers that they are.
+use Rattle.std.proofs.Common.{◌≡◌, ℕ, ◌+◌, ◌-◌, ◌*◌, ◌<◌, ◌≤◌, ◌&&◌, cond, leb, List, [], ◌∷◌, length, get_or, drop, map, Some, None, Option, refl, arith}
+use Rattle.std.specs.List.{list_all}
 use Rattle.std.proofs.lemmas.Bool.Decides.{nat_tests}
-use Rattle.dump.specs.Bytes.{unit, units_at}
-use Rattle.numeral.specs.Digits.{is_digit, are_digits, first_is, value_from}
-use Rattle.numeral.proofs.Runs.{rest, rest_more, rest_done}
+use Rattle.std.proofs.lemmas.List.{at_drop_more}
+use Rattle.dump.specs.Texts.{little}
+use Rattle.numeral.specs.Digits.{is_digit, are_digits, value_from, whole_within}
 
-pub first_unit : (c : ℕ) (b : List ℕ) (p n : ℕ) → first_is c (units_at b p n) ≡ (ltb 0 n && eqb (unit b p) c)
-first_unit c b p zero = refl
-first_unit c b p (suc n) = grind (arith, nat_tests)
+pub are_digits_lem : (cs : List ℕ) → are_digits cs ≡ list_all is_digit cs
+are_digits_lem [] = refl
+are_digits_lem (c ∷ cs) = let h = are_digits_lem cs in grind arith
 
 pub value_grows : (v : ℕ) (cs : List ℕ) → v ≤ value_from v cs
 value_grows v [] = omega arith
 value_grows v (c ∷ cs) = let h = value_grows (v * 10 + (c - 48)) cs in omega arith
 
-module _ (b : List ℕ) (p n k : ℕ) where
-  pub digits_more : k < n → are_digits (rest b p n k) ≡ (is_digit (unit b (p + k * 2)) && are_digits (rest b p n (k + 1)))
-  digits_more h = ap are_digits (rest_more b p n k h)
+-- the number that digits write after v, if it is at most the limit
+abbrev pub within_from : ℕ → ℕ → List ℕ → Option ℕ
+within_from limit v t = cond (are_digits t && leb (value_from v t) limit) (Some (value_from v t)) None
 
-  pub digits_done : n ≤ k → are_digits (rest b p n k) ≡ true
-  digits_done h = ap are_digits (rest_done b p n k h)
+pub past_limit : (limit v : ℕ) (t : List ℕ) → limit < v → within_from limit v t ≡ None
+past_limit limit v t h = let g = value_grows v t in grind (arith, nat_tests)
 
-  pub value_more : (v : ℕ) → k < n → value_from v (rest b p n k) ≡ value_from (v * 10 + (unit b (p + k * 2) - 48)) (rest b p n (k + 1))
-  value_more v h = ap (value_from v) (rest_more b p n k h)
+pub within_more : (limit v : ℕ) (ps : List (List ℕ)) (k : ℕ) → k < length ps → within_from limit v (map little (drop k ps)) ≡ cond (is_digit (little (get_or ps k []))) (within_from limit (v * 10 + (little (get_or ps k []) - 48)) (map little (drop (k + 1) ps))) None
+within_more limit v ps k h = let m = at_drop_more (λ ps. within_from limit v (map little ps)) ps k [] h in grind (arith, nat_tests)
 
-  pub value_done : (v : ℕ) → n ≤ k → value_from v (rest b p n k) ≡ v
-  value_done v h = ap (value_from v) (rest_done b p n k h)
+pub within_limit : (limit n : ℕ) (t : List ℕ) → whole_within limit t ≡ Some n → n ≤ limit
+within_limit limit n t h = grind (arith, nat_tests)

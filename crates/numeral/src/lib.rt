@@ -4,3 +4,4 @@
 pub mod digits;
 pub mod numerals;
 pub mod texts;
+mod units;

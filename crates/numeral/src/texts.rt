@@ -1,39 +1,45 @@
 // Texts compared unit by unit.
-ghost use Rattle.std.specs.Prelude.{◌≡◌, ◌+◌, ◌*◌, ◌≤◌, length};
-ghost use Rattle.dump.specs.Places.{units_of};
+ghost use Rattle.std.specs.Prelude.{◌≡◌, ◌==◌, not, find};
+ghost use Rattle.std.specs.List.{zip};
+ghost use Rattle.dump.specs.Texts.{text_units};
 ghost use Rattle.numeral.specs.Words.{same_units};
 ghost use Rattle.numeral.specs.Order.{before as is_before};
 
-use dump::bytes::unit;
-use dump::row::Run;
+use super::units::unit;
+use dump::text::Text;
 
-// The units of a run are the bytes of `word`.
-pub fn is_word(dump: &[u8], run: Run, word: &[u8]) -> bool
-    requires { run.start + run.count * 2 ≤ length dump.now }
-    ensures { result ≡ same_units (units_of dump.now run) word.now }
+// The units of the text are the bytes of `word`. Lengths first, so that of most texts no unit is looked at, as `eq` of iterators would.
+#[tactic(auto, using(crate::proofs::Orders::same_zip))]
+pub fn is_word(text: Text<'_>, word: &[u8]) -> bool
+    ensures { result ≡ same_units (text_units text.entry) word.now }
 {
-    if run.count != word.len() {
-        return false;
-    }
-    for k in 0..run.count {
-        if unit(dump, run.start + k * 2) != u16::from(word[k]) {
-            return false;
-        }
-    }
-    true
+    text.len() == word.len()
+        && text
+            .units
+            .iter()
+            .map(unit)
+            .zip(word)
+            .all(|(c, byte)| c == u16::from(*byte))
 }
 
-// The run `x` comes before the run `y`.
-pub fn before(dump: &[u8], x: Run, y: Run) -> bool
-    requires { (x.start + x.count * 2 ≤ length dump.now) × (y.start + y.count * 2 ≤ length dump.now) }
-    ensures { result ≡ is_before (units_of dump.now x) (units_of dump.now y) }
+// The first units that differ. `lt` of the iterators needs no such pair, and takes twice as long on long texts.
+fn difference(x: Text<'_>, y: Text<'_>) -> Option<(u16, u16)>
+    ensures { result ≡ find (λ p. not (p.0 == p.1)) (zip (text_units x.entry) (text_units y.entry)) }
 {
-    for k in 0..x.count.min(y.count) {
-        let a = unit(dump, x.start + k * 2);
-        let b = unit(dump, y.start + k * 2);
-        if a != b {
-            return a < b;
-        }
+    x.units
+        .iter()
+        .map(unit)
+        .zip(y.units.iter().map(unit))
+        .find(|(a, b)| a != b)
+}
+
+// The text `x` comes before the text `y`: the first units that differ decide, and a beginning comes first.
+#[tactic(auto, using(crate::proofs::Orders::before_find))]
+pub fn before(x: Text<'_>, y: Text<'_>) -> bool
+    ensures { result ≡ is_before (text_units x.entry) (text_units y.entry) }
+{
+    match difference(x, y) {
+        Some((a, b)) => a < b,
+        None => x.len() < y.len(),
     }
-    x.count < y.count
 }

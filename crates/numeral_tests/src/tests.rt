@@ -1,7 +1,8 @@
 // The rules at texts on both sides of each limit.
-ghost use Rattle.std.specs.Prelude.{◌≤◌, length};
+ghost use Rattle.std.specs.Prelude.{◌<◌};
 
 use dump::row::Run;
+use dump::text::Text;
 use numeral::digits::is_index;
 use numeral::numerals::{is_bigint, is_pair};
 use numeral::texts::{before, is_word};
@@ -10,73 +11,46 @@ const ONE_AND_A_HALF: u64 = 0x3ff8_0000_0000_0000;
 
 const MINUS: u64 = 0x8000_0000_0000_0000;
 
-// A dump that holds the units of `text` from byte 3 on.
-fn dump_of(text: &[u8]) -> [u8; 1024]
-    requires { length text.now ≤ 401 }
+// The test holds of the ASCII text.
+fn holds<const N: usize, F: Fn(Text<'_>) -> bool>(text: &[u8; N], test: F) -> bool
+    requires { (N < 1024) × F.IsAlwaysCallable test }
 {
-    let mut bytes = [0; 1024];
-    for k in 0..text.len() {
-        bytes[3 + k * 2] = text[k];
-    }
-    bytes
+    let units = text.map(|byte| [byte, 0]);
+    test(Text { units: &units })
 }
 
-fn index(text: &[u8]) -> bool
-    requires { length text.now ≤ 401 }
+fn pair<const N: usize>(text: &[u8; N], bits: u64) -> bool
+    requires { N < 1024 }
 {
-    let run = Run {
-        start: 3,
-        count: text.len(),
-    };
-    is_index(&dump_of(text), run)
-}
-
-fn bigint(text: &[u8]) -> bool
-    requires { length text.now ≤ 401 }
-{
-    let run = Run {
-        start: 3,
-        count: text.len(),
-    };
-    is_bigint(&dump_of(text), run)
-}
-
-fn pair(text: &[u8], bits: u64) -> bool
-    requires { length text.now ≤ 401 }
-{
-    let run = Run {
-        start: 3,
-        count: text.len(),
-    };
-    is_pair(&dump_of(text), run, bits)
+    holds(text, |text| is_pair(text, bits))
 }
 
 #[test]
 fn indexes(rt: HostRuntime) {
-    assert!(rt; index(b"0"));
-    assert!(rt; index(b"7"));
-    assert!(rt; index(b"4294967294"));
-    assert!(rt; !index(b"4294967295"));
-    assert!(rt; !index(b"42949672940"));
-    assert!(rt; !index(b"07"));
-    assert!(rt; !index(b""));
-    assert!(rt; !index(b"-1"));
-    assert!(rt; !index(b"1/"));
-    assert!(rt; !index(b"1:"));
+    assert!(rt; holds(b"0", is_index));
+    assert!(rt; holds(b"7", is_index));
+    assert!(rt; holds(b"4294967294", is_index));
+    assert!(rt; !holds(b"4294967295", is_index));
+    assert!(rt; !holds(b"42949672940", is_index));
+    assert!(rt; !holds(b"07", is_index));
+    assert!(rt; !holds(b"", is_index));
+    assert!(rt; !holds(b"-1", is_index));
+    assert!(rt; !holds(b"1/", is_index));
+    assert!(rt; !holds(b"1:", is_index));
 }
 
 #[test]
 fn bigints(rt: HostRuntime) {
-    assert!(rt; bigint(b"0"));
-    assert!(rt; bigint(b"-5"));
-    assert!(rt; bigint(b"123456789012345678901234567890"));
-    assert!(rt; !bigint(b"-0"));
-    assert!(rt; !bigint(b"05"));
-    assert!(rt; !bigint(b"-05"));
-    assert!(rt; !bigint(b""));
-    assert!(rt; !bigint(b"-"));
-    assert!(rt; !bigint(b"--5"));
-    assert!(rt; !bigint(b"12a"));
+    assert!(rt; holds(b"0", is_bigint));
+    assert!(rt; holds(b"-5", is_bigint));
+    assert!(rt; holds(b"123456789012345678901234567890", is_bigint));
+    assert!(rt; !holds(b"-0", is_bigint));
+    assert!(rt; !holds(b"05", is_bigint));
+    assert!(rt; !holds(b"-05", is_bigint));
+    assert!(rt; !holds(b"", is_bigint));
+    assert!(rt; !holds(b"-", is_bigint));
+    assert!(rt; !holds(b"--5", is_bigint));
+    assert!(rt; !holds(b"12a", is_bigint));
 }
 
 #[test]
@@ -128,39 +102,35 @@ fn long_numerals(rt: HostRuntime) {
 
 #[test]
 fn words(rt: HostRuntime) {
-    let bytes = dump_of(b"cause");
-    let text = Run { start: 3, count: 5 };
-    let cut = Run { start: 3, count: 4 };
-    assert!(rt; is_word(&bytes, text, b"cause"));
-    assert!(rt; is_word(&bytes, cut, b"caus"));
-    assert!(rt; !is_word(&bytes, cut, b"cause"));
-    assert!(rt; !is_word(&bytes, text, b"caus"));
-    assert!(rt; !is_word(&bytes, text, b"causa"));
+    assert!(rt; holds(b"cause", |text| is_word(text, b"cause")));
+    assert!(rt; holds(b"caus", |text| is_word(text, b"caus")));
+    assert!(rt; !holds(b"caus", |text| is_word(text, b"cause")));
+    assert!(rt; !holds(b"cause", |text| is_word(text, b"caus")));
+    assert!(rt; !holds(b"cause", |text| is_word(text, b"causa")));
     // a unit whose low byte is `c`
-    assert!(rt; !is_word(b"c\x01", Run { start: 0, count: 1 }, b"c"));
+    let high = Text {
+        units: &[[b'c', 1]],
+    };
+    assert!(rt; !is_word(high, b"c"));
 }
 
 #[test]
 fn order(rt: HostRuntime) {
-    let bytes = dump_of(b"abac");
-    let none = Run { start: 3, count: 0 };
-    let a = Run { start: 3, count: 1 };
-    let ab = Run { start: 3, count: 2 };
-    let ac = Run { start: 7, count: 2 };
-    assert!(rt; before(&bytes, none, a));
-    assert!(rt; before(&bytes, a, ab));
-    assert!(rt; before(&bytes, ab, ac));
-    assert!(rt; !before(&bytes, ac, ab));
-    assert!(rt; !before(&bytes, ab, a));
-    assert!(rt; !before(&bytes, ab, ab));
-    assert!(rt; !before(&bytes, none, none));
+    // the units of `abac`, from byte 3 on
+    let bytes = b"\0\0\0a\0b\0a\0c\0";
+    let none = Text::new(bytes, Run { start: 3, count: 0 });
+    let a = Text::new(bytes, Run { start: 3, count: 1 });
+    let ab = Text::new(bytes, Run { start: 3, count: 2 });
+    let ac = Text::new(bytes, Run { start: 7, count: 2 });
+    assert!(rt; before(none, a));
+    assert!(rt; before(a, ab));
+    assert!(rt; before(ab, ac));
+    assert!(rt; !before(ac, ab));
+    assert!(rt; !before(ab, a));
+    assert!(rt; !before(ab, ab));
+    assert!(rt; !before(none, none));
     // 1 with a high byte comes after 2
-    let units = b"\x01\x01\x02\x00";
-    assert!(rt;
-        before(
-            units,
-            Run { start: 2, count: 1 },
-            Run { start: 0, count: 1 },
-        )
-    );
+    let high = Text { units: &[[1, 1]] };
+    let two = Text { units: &[[2, 0]] };
+    assert!(rt; before(two, high));
 }

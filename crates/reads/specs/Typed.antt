@@ -1,115 +1,60 @@
--- What a typed row means, given the bytes of its dump; that its runs lie in the dump, and the objects that it names are there.
-use Rattle.std.specs.Prelude.{ℕ, ◌+◌, ◌*◌, ◌<◌, ◌≤◌, List, length, Some, None, Option}
-use Rattle.dump.specs.declared.row.Run.{Run}
-use Rattle.dump.specs.Bytes.{bytes_at}
+-- What a typed row means, and that the objects that it names are there.
+use Rattle.std.specs.Prelude.{ℕ, ◌<◌, true, false, Some, None, Option}
+use Rattle.dump.specs.declared.text.Text.{Text as Units}
 use Rattle.dump.specs.Heaps as meant
-use Rattle.dump.specs.Places.{units_of}
+use Rattle.dump.specs.Texts.{text_units}
 use Rattle.reads.specs.declared.value.Value.{Value}
 use Rattle.reads.specs.declared.value.Value.TheVariants.{Undefined, Null, Hole, Boolean, Whole, Double, BigInt, Text, Object}
 use Rattle.reads.specs.declared.value.Key.{Key}
 use Rattle.reads.specs.declared.value.Key.TheVariants.{Index, Name}
-use Rattle.reads.specs.declared.object.Octets.{Octets}
 use Rattle.reads.specs.declared.object.Kind.{Kind}
 use Rattle.reads.specs.declared.object.Kind.TheVariants.{BooleanObject, NumberObject, BigIntObject, StringObject, RegExp, Date, Plain, Sparse, Dense, Map, Set, Buffer, View, Error}
 use Rattle.reads.specs.declared.object.Part.{Part}
 use Rattle.reads.specs.declared.object.Part.TheVariants.{Property, Element, Entry, Member, Below, Cause}
 
-module _ (b : List ℕ) where
-  -- a run of units, or of bytes, lies in the dump
-  abbrev pub RunFits : Run → Type 0
-  RunFits r = r.start + r.count * 2 ≤ length b
+abbrev pub maybe_in : Option Units → Option meant.Text
+maybe_in None = None
+maybe_in (Some t) = Some (text_units t)
 
-  abbrev pub OctetsFit : Octets → Type 0
-  OctetsFit o = o.start + o.count ≤ length b
+abbrev pub value_in : Value → meant.Value
+value_in Undefined = meant.undefined
+value_in Null = meant.null
+value_in Hole = meant.hole
+value_in (Boolean x) = meant.boolean x
+value_in (Whole n) = meant.whole n
+value_in (Double n) = meant.double n
+value_in (BigInt t) = meant.bigint (text_units t)
+value_in (Text t) = meant.text (text_units t)
+value_in (Object i) = meant.object i
 
-  abbrev pub octets_of : Octets → List ℕ
-  octets_of o = bytes_at b o.start o.count
+abbrev pub key_in : Key → meant.Key
+key_in (Index n) = meant.index n
+key_in (Name t) = meant.name (text_units t)
 
-  abbrev pub maybe_in : Option Run → Option meant.Text
-  maybe_in None = None
-  maybe_in (Some r) = Some (units_of b r)
+abbrev pub kind_in : Kind → meant.Kind
+kind_in (BooleanObject x) = meant.boolean_object x
+kind_in (NumberObject n) = meant.number_object n
+kind_in (BigIntObject t) = meant.bigint_object (text_units t)
+kind_in (StringObject t) = meant.string_object (text_units t)
+kind_in (RegExp pattern flags) = meant.regexp (text_units pattern) flags
+kind_in (Date time) = meant.date time
+kind_in Plain = meant.plain
+kind_in (Sparse n) = meant.sparse n
+kind_in (Dense n) = meant.dense n
+kind_in Map = meant.map
+kind_in Set = meant.set
+kind_in (Buffer octets maximum) = meant.buffer octets.now maximum
+kind_in (View kind offset (Some n)) = meant.view kind offset n false
+kind_in (View kind offset None) = meant.view kind offset 0 true
+kind_in (Error name message stack) = meant.error name (maybe_in message) (maybe_in stack)
 
-  abbrev pub MaybeFits : Option Run → Type 0
-  MaybeFits None = Unit {0}
-  MaybeFits (Some r) = RunFits r
-
-  abbrev pub value_in : Value → meant.Value
-  value_in Undefined = meant.undefined
-  value_in Null = meant.null
-  value_in Hole = meant.hole
-  value_in (Boolean x) = meant.boolean x
-  value_in (Whole n) = meant.whole n
-  value_in (Double n) = meant.double n
-  value_in (BigInt r) = meant.bigint (units_of b r)
-  value_in (Text r) = meant.text (units_of b r)
-  value_in (Object i) = meant.object i
-
-  abbrev pub ValueFits : Value → Type 0
-  ValueFits Undefined = Unit {0}
-  ValueFits Null = Unit {0}
-  ValueFits Hole = Unit {0}
-  ValueFits (Boolean x) = Unit {0}
-  ValueFits (Whole n) = Unit {0}
-  ValueFits (Double n) = Unit {0}
-  ValueFits (BigInt r) = RunFits r
-  ValueFits (Text r) = RunFits r
-  ValueFits (Object i) = Unit {0}
-
-  abbrev pub key_in : Key → meant.Key
-  key_in (Index n) = meant.index n
-  key_in (Name r) = meant.name (units_of b r)
-
-  abbrev pub KeyFits : Key → Type 0
-  KeyFits (Index n) = Unit {0}
-  KeyFits (Name r) = RunFits r
-
-  abbrev pub kind_in : Kind → meant.Kind
-  kind_in (BooleanObject x) = meant.boolean_object x
-  kind_in (NumberObject n) = meant.number_object n
-  kind_in (BigIntObject r) = meant.bigint_object (units_of b r)
-  kind_in (StringObject r) = meant.string_object (units_of b r)
-  kind_in (RegExp pattern flags) = meant.regexp (units_of b pattern) flags
-  kind_in (Date time) = meant.date time
-  kind_in Plain = meant.plain
-  kind_in (Sparse n) = meant.sparse n
-  kind_in (Dense n) = meant.dense n
-  kind_in Map = meant.map
-  kind_in Set = meant.set
-  kind_in (Buffer octets maximum) = meant.buffer (octets_of octets) maximum
-  kind_in (View kind offset n tracking) = meant.view kind offset n tracking
-  kind_in (Error name message stack) = meant.error name (maybe_in message) (maybe_in stack)
-
-  abbrev pub KindFits : Kind → Type 0
-  KindFits (BooleanObject x) = Unit {0}
-  KindFits (NumberObject n) = Unit {0}
-  KindFits (BigIntObject r) = RunFits r
-  KindFits (StringObject r) = RunFits r
-  KindFits (RegExp pattern flags) = RunFits pattern
-  KindFits (Date time) = Unit {0}
-  KindFits Plain = Unit {0}
-  KindFits (Sparse n) = Unit {0}
-  KindFits (Dense n) = Unit {0}
-  KindFits Map = Unit {0}
-  KindFits Set = Unit {0}
-  KindFits (Buffer octets maximum) = OctetsFit octets
-  KindFits (View kind offset n tracking) = Unit {0}
-  KindFits (Error name message stack) = MaybeFits message × MaybeFits stack
-
-  abbrev pub part_in : Part → meant.Part
-  part_in (Property k v) = meant.property (key_in k) (value_in v)
-  part_in (Element v) = meant.element (value_in v)
-  part_in (Entry k v) = meant.entry (value_in k) (value_in v)
-  part_in (Member v) = meant.member (value_in v)
-  part_in (Below i) = meant.below i
-  part_in (Cause v) = meant.cause (value_in v)
-
-  abbrev pub PartFits : Part → Type 0
-  PartFits (Property k v) = KeyFits k × ValueFits v
-  PartFits (Element v) = ValueFits v
-  PartFits (Entry k v) = ValueFits k × ValueFits v
-  PartFits (Member v) = ValueFits v
-  PartFits (Below i) = Unit {0}
-  PartFits (Cause v) = ValueFits v
+abbrev pub part_in : Part → meant.Part
+part_in (Property k v) = meant.property (key_in k) (value_in v)
+part_in (Element v) = meant.element (value_in v)
+part_in (Entry k v) = meant.entry (value_in k) (value_in v)
+part_in (Member v) = meant.member (value_in v)
+part_in (Below i) = meant.below i
+part_in (Cause v) = meant.cause (value_in v)
 
 -- an object that a value or a part names is one of n
 module _ (n : ℕ) where

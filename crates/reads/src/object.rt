@@ -1,25 +1,18 @@
 // What an object has besides its parts, and a part.
 use super::value::{Key, Value};
 use dump::kinds::{ErrorName, ViewKind};
-use dump::row::Run;
-
-// A run of bytes: where it begins in the dump, and how many it has.
-#[derive(Clone, Copy)]
-pub struct Octets {
-    pub start: usize,
-    pub count: usize,
-}
+use dump::text::Text;
 
 // The flags of a regular expression are bits, and a date is its milliseconds, none if invalid.
-// A dense array's parts are its elements, then its properties; a tracking view has the length 0.
+// A dense array's parts are its elements, then its properties; a view with no length tracks its buffer's.
 #[derive(Clone, Copy)]
-pub enum Kind {
+pub enum Kind<'a> {
     BooleanObject(bool),
     NumberObject(u64),
-    BigIntObject(Run),
-    StringObject(Run),
+    BigIntObject(Text<'a>),
+    StringObject(Text<'a>),
     RegExp {
-        pattern: Run,
+        pattern: Text<'a>,
         flags: u32,
     },
     Date(Option<i64>),
@@ -33,29 +26,28 @@ pub enum Kind {
     Map,
     Set,
     Buffer {
-        octets: Octets,
+        octets: &'a [u8],
         maximum: Option<u32>,
     },
     View {
         kind: ViewKind,
         offset: u32,
-        length: u32,
-        tracking: bool,
+        length: Option<u32>,
     },
     Error {
         name: ErrorName,
-        message: Option<Run>,
-        stack: Option<Run>,
+        message: Option<Text<'a>>,
+        stack: Option<Text<'a>>,
     },
 }
 
 // Below a view is its buffer.
 #[derive(Clone, Copy)]
-pub enum Part {
-    Property(Key, Value),
-    Element(Value),
-    Entry(Value, Value),
-    Member(Value),
+pub enum Part<'a> {
+    Property(Key<'a>, Value<'a>),
+    Element(Value<'a>),
+    Entry(Value<'a>, Value<'a>),
+    Member(Value<'a>),
     Below(usize),
-    Cause(Value),
+    Cause(Value<'a>),
 }

@@ -1,22 +1,22 @@
-// A value and a key, whose text is a run of units in the dump.
-use dump::row::Run;
+// A value and a key, whose texts are read in place.
+use dump::text::Text;
 
 // A whole number has 32 bits, signed or not; a double is its 64 bits; a hole is a missing element.
 #[derive(Clone, Copy)]
-pub enum Value {
+pub enum Value<'a> {
     Undefined,
     Null,
     Hole,
     Boolean(bool),
     Whole(i64),
     Double(u64),
-    BigInt(Run),
-    Text(Run),
+    BigInt(Text<'a>),
+    Text(Text<'a>),
     Object(usize),
 }
 
 #[derive(Clone, Copy)]
-pub enum Key {
+pub enum Key<'a> {
     Index(u32),
-    Name(Run),
+    Name(Text<'a>),
 }

@@ -10,19 +10,33 @@ use std::alloc::{AllocError, AllocFailed, Global};
 use std::io::Read;
 use std::{fmt, io};
 
+// The numbers of a refusal: a case may name some that no refusal has.
 #[derive(Clone, Copy, PartialEq)]
-enum Answer {
-    Accepted,
-    Refused(Refusal),
+struct Told {
+    number: u8,
+    section: u8,
+    record: u32,
 }
+
+impl From<Refusal> for Told {
+    fn from(no: Refusal) -> Told {
+        Told {
+            number: no.rule as u8,
+            section: no.site as u8,
+            record: no.record,
+        }
+    }
+}
+
+// What `check` says of a dump.
+#[derive(Clone, Copy, PartialEq)]
+struct Answer(Result<(), Told>);
 
 impl fmt::Display for Answer {
     fn fmt<W: fmt::Write>(&self, f: &mut fmt::Formatter<W>) -> fmt::Result {
-        match self {
-            Answer::Accepted => write!(f, "accepted"),
-            Answer::Refused(no) => {
-                write!(f, "refused {} {} {}", no.number, no.section, no.record)
-            }
+        match self.0 {
+            Ok(()) => write!(f, "accepted"),
+            Err(no) => write!(f, "refused {} {} {}", no.number, no.section, no.record),
         }
     }
 }
@@ -57,6 +71,7 @@ impl From<AllocFailed<u8>> for Failure {
     }
 }
 
+// A digit in hexadecimal. A case writes none in upper case, which `to_digit` would take.
 fn digit(c: u8) -> Result<u8, Failure> {
     match c {
         b'0'..=b'9' => Ok(c - b'0'),
@@ -79,9 +94,7 @@ fn add_piece(dump: &mut Vec<u8>, piece: &str) -> Result<(), Failure> {
     let Some((hex, count)) = piece.split_once('*') else {
         return add_bytes(dump, piece);
     };
-    let Ok(count) = count.parse::<u32>() else {
-        return Err(Failure::Malformed);
-    };
+    let count = count.parse::<u32>().map_err(|_| Failure::Malformed)?;
     for _ in 0..count {
         add_bytes(dump, hex)?;
     }
@@ -100,38 +113,25 @@ fn dump_of(heap: Global, text: &str) -> Result<Vec<u8>, Failure> {
 
 fn answer_of(text: &str) -> Option<Answer> {
     if text == "accepted" {
-        return Some(Answer::Accepted);
+        return Some(Answer(Ok(())));
     }
     let mut words = text.strip_prefix("refused ")?.split(' ');
-    let number = words.next()?.parse::<u8>().ok()?;
-    let section = words.next()?.parse::<u8>().ok()?;
-    let record = words.next()?.parse::<u32>().ok()?;
-    if words.next().is_some() {
-        return None;
-    }
-    Some(Answer::Refused(Refusal {
-        number,
-        section,
-        record,
-    }))
+    let told = Told {
+        number: words.next()?.parse().ok()?,
+        section: words.next()?.parse().ok()?,
+        record: words.next()?.parse().ok()?,
+    };
+    words.next().is_none().then_some(Answer(Err(told)))
 }
 
-// What `check` says of a dump.
 fn judged<'a>(dump: &'a [u8]) -> Answer {
     let mut heap: Heap<'a> = Heap::new();
-    match heap.check(dump) {
-        Ok(()) => Answer::Accepted,
-        Err(no) => Answer::Refused(no),
-    }
+    Answer(heap.check(dump).map_err(Told::from))
 }
 
 fn replay(heap: Global, case: &str) -> Result<(), Failure> {
-    let Some((dump, answer)) = case.split_once(' ') else {
-        return Err(Failure::Malformed);
-    };
-    let Some(expected) = answer_of(answer) else {
-        return Err(Failure::Malformed);
-    };
+    let (dump, answer) = case.split_once(' ').ok_or(Failure::Malformed)?;
+    let expected = answer_of(answer).ok_or(Failure::Malformed)?;
     let dump = dump_of(heap, dump)?;
     let came = judged(dump.as_slice());
     if came == expected {

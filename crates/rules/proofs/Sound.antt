@@ -1,11 +1,12 @@
 -- What the loops over rows use of the rows that passed: runs of units, parts and bytes lie in their sections.
-use Rattle.std.proofs.Common.{◌≡◌, ℕ, zero, suc, ◌+◌, ◌<◌, ◌≤◌, true, List, is_ok, add-one, arith}
+use Rattle.std.proofs.Common.{◌≡◌, ℕ, zero, suc, ◌+◌, ◌<◌, ◌≤◌, true, List, map, is_ok, refl, add-one, arith}
+use Rattle.std.specs.List.{range_with_len, sum}
 use Rattle.std.proofs.lemmas.Bool.{and_parts}
 use Rattle.std.proofs.lemmas.Bool.Decides.{nat_tests}
 use Rattle.dump.specs.declared.layout.Layout.{Layout}
 use Rattle.dump.specs.declared.row.Row.{Row}
 use Rattle.dump.specs.Places.{end_of, row_at}
-use Rattle.dump.proofs.Rules.{row_passes, judge_holds}
+use Rattle.dump.proofs.Rules.{row_passes, judge_holds, sum_in_range}
 use Rattle.shapes.specs.Rows.{numbers_ok, parts_in, bytes_in, runs_ok, bytes_ok}
 use Rattle.rules.specs.Texts.{text_row, text_rows}
 use Rattle.rules.specs.Objects.{parts_below, bytes_below, object_rules, object_row, object_rows}
@@ -19,6 +20,13 @@ parts_more b l i = rw add-one
 
 pub bytes_more : (b : List ℕ) (l : Layout) (i : ℕ) → bytes_below b l (i + 1) ≡ bytes_below b l i + bytes_in (row_at b l i)
 bytes_more b l i = rw add-one
+
+-- the parts and bytes of all rows, as sums
+pub parts_sum : (b : List ℕ) (l : Layout) (n : ℕ) → sum (map (λ i. parts_in (row_at b l i)) (range_with_len 0 n)) ≡ parts_below b l n
+parts_sum b l n = sum_in_range (λ i. parts_in (row_at b l i)) (parts_below b l) refl (parts_more b l) n
+
+pub bytes_sum : (b : List ℕ) (l : Layout) (n : ℕ) → sum (map (λ i. bytes_in (row_at b l i)) (range_with_len 0 n)) ≡ bytes_below b l n
+bytes_sum b l n = sum_in_range (λ i. bytes_in (row_at b l i)) (bytes_below b l) refl (bytes_more b l) n
 
 pub record Passed (b : List ℕ) (l : Layout) (i : ℕ) : Type 0 where
   pub numbers : numbers_ok l.texts.count l.objects.count (row_at b l i) ≡ true

@@ -1,5 +1,5 @@
 -- The rules of part rows, each in its role for its object.
-use Rattle.std.specs.Prelude.{ℕ, ◌+◌, ◌-◌, Bool, true, false, cond, not, ◌&&◌, ◌||◌, List, [], ◌∷◌, is_some, codes, ◌==◌, nat_lt}
+use Rattle.std.specs.Prelude.{ℕ, ◌+◌, ◌-◌, Bool, true, false, cond, not, ◌&&◌, ◌||◌, List, [], ◌∷◌, is_some, Some, None, Option, codes, ◌==◌, nat_lt}
 use Rattle.dump.specs.declared.layout.Layout.{Layout}
 use Rattle.dump.specs.declared.row.Cell.{Cell}
 use Rattle.dump.specs.declared.row.Row.{Row}
@@ -19,8 +19,8 @@ use Rattle.rules.specs.Objects.{parts_below}
 abbrev pub first_run : Row → PartRun
 first_run r = record {
   role =
-      cond (r.kind == 6) (Property 4294967295 false)
-      (cond (r.kind == 7) (Property r.c true)
+      cond (r.kind == 6) (Property None)
+      (cond (r.kind == 7) (Property (Some r.c))
       (cond (r.kind == 8) Element
       (cond (r.kind == 9) Entry
       (cond (r.kind == 10) Member
@@ -32,18 +32,23 @@ first_run r = record {
 
 abbrev pub second_run : Row → PartRun
 second_run r = record {
-  role = Property 0 true;
+  role = Property (Some 0);
   first = cond (r.kind == 8) r.c 0;
   count = cond (r.kind == 8) r.d 0;
 }
 
 abbrev pub may_be_hole : Role → Bool
-may_be_hole (Property limit array) = false
+may_be_hole (Property array) = false
 may_be_hole Element = true
 may_be_hole Entry = false
 may_be_hole Member = false
 may_be_hole Cause = false
 may_be_hole Loose = false
+
+-- the limit of the index keys of an array, or of an object that is none
+abbrev pub limit_of : Option ℕ → ℕ
+limit_of None = 4294967295
+limit_of (Some n) = n
 
 module _ (b : List ℕ) (l : Layout) where
   -- the key of the part p is the text with this number
@@ -75,7 +80,7 @@ module _ (b : List ℕ) (l : Layout) where
 
   -- 7: a part has a key that its role wants
   abbrev pub key_ok : Role → ℕ → ℕ → Bool
-  key_ok (Property limit array) first k = property_ok limit array first k
+  key_ok (Property array) first k = property_ok (limit_of array) (is_some array) first k
   key_ok Element first k = (key_at b l (first + k)).tag == 0
   key_ok Entry first k = true
   key_ok Member first k = (key_at b l (first + k)).tag == 0
@@ -84,7 +89,7 @@ module _ (b : List ℕ) (l : Layout) where
 
   -- what tells the entries of a Map, or the members of a Set, apart
   abbrev pub identity : Role → ℕ → Cell
-  identity (Property limit array) p = key_at b l p
+  identity (Property array) p = key_at b l p
   identity Element p = value_at b l p
   identity Entry p = key_at b l p
   identity Member p = value_at b l p
@@ -99,7 +104,7 @@ module _ (b : List ℕ) (l : Layout) where
 
   -- 8: a Map's keys and a Set's values are apart
   abbrev pub member_ok : Role → ℕ → ℕ → Bool
-  member_ok (Property limit array) first k = true
+  member_ok (Property array) first k = true
   member_ok Element first k = true
   member_ok Entry first k = apart Entry first k
   member_ok Member first k = apart Member first k

@@ -2,7 +2,9 @@
 #![tactic(auto)]
 
 pub mod cells;
+pub mod marks;
 pub mod objects;
+mod part;
 pub mod parts;
 pub mod role;
 pub mod rows;

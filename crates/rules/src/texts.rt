@@ -1,25 +1,17 @@
 // Text rows and numeral rows.
-ghost use Rattle.std.specs.Prelude.{◌≡◌, ℕ, ◌+◌, ◌*◌, ◌<◌, ◌≤◌, length};
+ghost use Rattle.std.specs.Prelude.{◌≡◌, ℕ, ◌+◌, ◌*◌, ◌<◌, ◌≤◌, true, length, is_ok};
 ghost use Rattle.dump.specs.Rules.{any_below};
 ghost use Rattle.dump.specs.Raws.{bytes};
-ghost use Rattle.dump.specs.Places.{text_run, numeral_text};
-ghost use Rattle.rules.specs.Texts.{text_row, text_rows, same_numeral, numeral_row, numeral_rows, TextsSound, Marked};
+ghost use Rattle.dump.specs.Texts.{text_units};
+ghost use Rattle.dump.specs.Places.{text_of};
+ghost use Rattle.rules.specs.Texts.{text_row, text_rows, same_numeral, numeral_row, numeral_rows, TextsSound};
 
+use super::marks::Marks;
 use dump::raw::Raw;
-use dump::refusal::Refusal;
-use dump::row::Run;
+use dump::refusal::{Refusal, Rule, Site};
+use dump::text::Text;
 use numeral::numerals::{is_bigint, is_pair};
 use numeral::texts::before;
-
-// The units of a text, which lie in the dump.
-pub fn run_of(raw: &Raw<'_>, text: usize) -> Run
-    requires there { text < raw.now.layout.texts.count }
-    requires sound { TextsSound raw.now }
-    ensures is { result ≡ text_run (bytes raw.now) raw.now.layout text }
-    ensures fits { result.start + result.count * 2 ≤ length (bytes raw.now) }
-{
-    raw.text(text)
-}
 
 fn text_row(raw: &Raw<'_>, i: usize) -> Result<(), Refusal>
     requires { i < raw.now.layout.texts.count }
@@ -27,18 +19,16 @@ fn text_row(raw: &Raw<'_>, i: usize) -> Result<(), Refusal>
 {
     let first = raw.first(i);
     if first != raw.begin(i) || first + raw.count(i) > raw.layout.units.count {
-        return Err(Refusal {
-            number: 5,
-            section: 1,
-            record: i as u32,
-        });
+        return Err(Refusal::at(Rule::Place, Site::Texts, i));
     }
-    if i > 0 && !before(raw.dump, raw.text(i - 1), raw.text(i)) {
-        return Err(Refusal {
-            number: 3,
-            section: 1,
-            record: i as u32,
-        });
+    // Here the text and the one before it lie in the dump.
+    if i > 0
+        && !before(
+            Text::new(raw.dump, raw.text(i - 1)),
+            Text::new(raw.dump, raw.text(i)),
+        )
+    {
+        return Err(Refusal::at(Rule::Order, Site::Texts, i));
     }
     Ok(())
 }
@@ -52,67 +42,72 @@ pub fn text_rows(raw: &Raw<'_>) -> Result<(), Refusal>
     Ok(())
 }
 
-// The numeral rows `i` and `k` have one text or one double.
-fn same_numeral(raw: &Raw<'_>, i: usize, k: usize) -> bool
-    requires { (i < raw.now.layout.numerals.count) × (k < raw.now.layout.numerals.count) }
-    ensures { result ≡ same_numeral (bytes raw.now) raw.now.layout i k }
-{
-    raw.numeral_text(i) == raw.numeral_text(k) || raw.numeral_bits(i) == raw.numeral_bits(k)
+// A dump whose text rows keep their rules.
+#[derive(Clone, Copy)]
+pub struct Texts<'a> {
+    pub raw: Raw<'a>,
+    ghost sound: { TextsSound raw },
 }
 
-fn repeated(raw: &Raw<'_>, i: usize) -> bool
-    requires { i < raw.now.layout.numerals.count }
-    ensures { result ≡ any_below (same_numeral (bytes raw.now) raw.now.layout i) i }
-{
-    for k in 0..i {
-        if same_numeral(raw, i, k) {
-            return true;
+impl<'a> Texts<'a> {
+    // The units of a text, which lie in the dump.
+    pub fn text(&self, i: usize) -> Text<'a>
+        requires { i < self.now.raw.layout.texts.count }
+        ensures { text_units result ≡ text_of (bytes self.now.raw) self.now.raw.layout i }
+    {
+        Text::new(self.raw.dump, self.raw.text(i))
+    }
+
+    // The numeral rows `i` and `k` have one text or one double.
+    fn same_numeral(&self, i: usize, k: usize) -> bool
+        requires { (i < self.now.raw.layout.numerals.count) × (k < self.now.raw.layout.numerals.count) }
+        ensures { result ≡ same_numeral (bytes self.now.raw) self.now.raw.layout i k }
+    {
+        let raw = &self.raw;
+        raw.numeral_text(i) == raw.numeral_text(k) || raw.numeral_bits(i) == raw.numeral_bits(k)
+    }
+
+    fn repeated(&self, i: usize) -> bool
+        requires { i < self.now.raw.layout.numerals.count }
+        ensures { result ≡ any_below (same_numeral (bytes self.now.raw) self.now.raw.layout i) i }
+    {
+        (0..i).any(|k| self.same_numeral(i, k))
+    }
+
+    fn numeral_row(&self, i: usize) -> Result<(), Refusal>
+        requires { i < self.now.raw.layout.numerals.count }
+        ensures { result ≡ numeral_row (bytes self.now.raw) self.now.raw.layout i }
+    {
+        let text = self.raw.numeral_text(i);
+        if text >= self.raw.layout.texts.count {
+            return Err(Refusal::at(Rule::Place, Site::Numerals, i));
         }
+        if !is_pair(self.text(text), self.raw.numeral_bits(i)) || self.repeated(i) {
+            return Err(Refusal::at(Rule::Numeral, Site::Numerals, i));
+        }
+        Ok(())
     }
-    false
-}
 
-fn numeral_row(raw: &Raw<'_>, i: usize) -> Result<(), Refusal>
-    requires here { i < raw.now.layout.numerals.count }
-    requires sound { TextsSound raw.now }
-    ensures { result ≡ numeral_row (bytes raw.now) raw.now.layout i }
-{
-    let text = raw.numeral_text(i);
-    if text >= raw.layout.texts.count {
-        return Err(Refusal {
-            number: 5,
-            section: 3,
-            record: i as u32,
-        });
+    pub fn numeral_rows(&self) -> Result<(), Refusal>
+        ensures { result ≡ numeral_rows (bytes self.now.raw) self.now.raw.layout }
+    {
+        for i in 0..self.raw.layout.numerals.count {
+            self.numeral_row(i)?;
+        }
+        Ok(())
     }
-    if !is_pair(raw.dump, run_of(raw, text), raw.numeral_bits(i)) || repeated(raw, i) {
-        return Err(Refusal {
-            number: 6,
-            section: 3,
-            record: i as u32,
-        });
-    }
-    Ok(())
-}
 
-pub fn numeral_rows(raw: &Raw<'_>) -> Result<(), Refusal>
-    requires sound { TextsSound raw.now }
-    ensures { result ≡ numeral_rows (bytes raw.now) raw.now.layout }
-{
-    for i in 0..raw.layout.numerals.count {
-        numeral_row(raw, i)?;
-    }
-    Ok(())
-}
-
-// For each text whether it is that of a BigInt. Many values may share a long text, which is read only here.
-pub type Marks = [bool; 8192];
-
-pub fn mark_bigints(raw: &Raw<'_>, marks: &mut Marks)
-    requires sound { TextsSound raw.now }
-    ensures { Marked raw.now marks.new }
-{
-    for t in 0..raw.layout.texts.count {
-        marks[t] = is_bigint(raw.dump, run_of(raw, t));
+    // Which texts are those of BigInts: each is read for it only here.
+    pub fn marks(&self) -> Marks<'a>
+        ensures { result.raw ≡ self.now.raw }
+    {
+        let mut flags = [false; 8192];
+        for i in 0..self.raw.layout.texts.count {
+            flags[i] = is_bigint(self.text(i));
+        }
+        Marks {
+            raw: self.raw,
+            flags,
+        }
     }
 }

@@ -1,9 +1,9 @@
 // An object row's words, rule by rule.
-ghost use Rattle.std.specs.Prelude.{◌≡◌, ℕ, ◌+◌, ◌^◌, ◌<◌, ◌≤◌};
-ghost use Rattle.shapes.specs.Rows.{words_ok, numbers_ok, parts_in, bytes_in, runs_ok, bytes_ok, flags_ok, time_ok, limits_ok, view_ok, buffers_ok};
-ghost use Rattle.dump.specs.Kinds.{view_kind, width as width_of};
+ghost use Rattle.std.specs.Prelude.{◌≡◌, ◌+◌, ◌^◌, ◌<◌, ◌≤◌, ◌&&◌, ◌==◌, cond, nat_le, Some, None};
+ghost use Rattle.shapes.specs.Rows.{words_ok, numbers_ok, parts_in, bytes_in, runs_ok, bytes_ok, flags_ok, time_ok, limits_ok, view_ok, buffers_ok, tracking};
 
-use dump::kinds::{view_kind, width};
+use dump::bytes::joined;
+use dump::kinds::{ErrorName, ObjectKind, ViewKind, view_kind, width};
 use dump::row::Row;
 
 // A known kind, zero in each word that it does not use, and the others in range.
@@ -18,17 +18,23 @@ pub fn words_ok(row: Row) -> bool
         d,
         e,
     } = row;
+    let Ok(kind) = ObjectKind::try_from(kind) else {
+        return false;
+    };
     match kind {
-        0 => a <= 1 && b == 0 && c == 0 && d == 0 && e == 0,
-        2 | 3 => b == 0 && c == 0 && d == 0 && e == 0,
-        1 | 4 | 6 | 9 | 10 => c == 0 && d == 0 && e == 0,
-        5 => d == 0 && e == 0 && c <= 1 && (c == 0 || a == 0 && b == 0),
-        7 => d == 0 && e == 0,
-        8 => e == 0,
-        11 => e == 0 && c <= 1 && (c == 1 || d == 0),
-        12 => b <= 11 && e <= 3,
-        13 => a <= 6 && e <= 1,
-        _ => false,
+        ObjectKind::Boolean => a <= 1 && [b, c, d, e] == [0; 4],
+        ObjectKind::BigInt | ObjectKind::String => [b, c, d, e] == [0; 4],
+        ObjectKind::Number
+        | ObjectKind::RegExp
+        | ObjectKind::Plain
+        | ObjectKind::Map
+        | ObjectKind::Set => [c, d, e] == [0; 3],
+        ObjectKind::Date => [d, e] == [0; 2] && c <= 1 && (c == 0 || [a, b] == [0; 2]),
+        ObjectKind::Sparse => [d, e] == [0; 2],
+        ObjectKind::Dense => e == 0,
+        ObjectKind::Buffer => e == 0 && c <= 1 && (c == 1 || d == 0),
+        ObjectKind::View => ViewKind::try_from(b).is_ok() && e <= 3,
+        ObjectKind::Error => ErrorName::try_from(a).is_ok() && e <= 1,
     }
 }
 
@@ -36,10 +42,12 @@ pub fn words_ok(row: Row) -> bool
 pub fn numbers_ok(row: Row, texts: usize, objects: usize) -> bool
     ensures { result ≡ numbers_ok texts objects row }
 {
-    match row.kind {
-        2 | 3 | 4 => (row.a as usize) < texts,
-        12 => (row.a as usize) < objects,
-        13 => row.b as usize <= texts && row.c as usize <= texts,
+    match ObjectKind::try_from(row.kind) {
+        Ok(ObjectKind::BigInt | ObjectKind::String | ObjectKind::RegExp) => {
+            (row.a as usize) < texts
+        }
+        Ok(ObjectKind::View) => (row.a as usize) < objects,
+        Ok(ObjectKind::Error) => row.b as usize <= texts && row.c as usize <= texts,
         _ => true,
     }
 }
@@ -48,10 +56,12 @@ pub fn numbers_ok(row: Row, texts: usize, objects: usize) -> bool
 pub fn parts_in(row: Row) -> usize
     ensures { (result ≡ parts_in row) × (result < 2 ^ 33) }
 {
-    match row.kind {
-        6 | 7 | 9 | 10 => row.b as usize,
-        8 => row.b as usize + row.d as usize,
-        13 => row.e as usize,
+    match ObjectKind::try_from(row.kind) {
+        Ok(ObjectKind::Plain | ObjectKind::Sparse | ObjectKind::Map | ObjectKind::Set) => {
+            row.b as usize
+        }
+        Ok(ObjectKind::Dense) => row.b as usize + row.d as usize,
+        Ok(ObjectKind::Error) => row.e as usize,
         _ => 0,
     }
 }
@@ -60,7 +70,18 @@ pub fn parts_in(row: Row) -> usize
 pub fn bytes_in(row: Row) -> usize
     ensures { (result ≡ bytes_in row) × (result < 2 ^ 32) }
 {
-    if row.kind == 11 { row.b as usize } else { 0 }
+    match ObjectKind::try_from(row.kind) {
+        Ok(ObjectKind::Buffer) => row.b as usize,
+        _ => 0,
+    }
+}
+
+// A run of `count` records from the record `first` on begins at `begin` and ends within `total`.
+fn run_ok(first: u32, count: u32, begin: usize, total: usize) -> bool
+    requires { (begin ≤ total) × (total ≤ 1048576) }
+    ensures { result ≡ (first == begin && nat_le (begin + count) total) }
+{
+    first as usize == begin && begin + count as usize <= total
 }
 
 // The runs of parts begin at `begin`, one behind the other, and end within `total`.
@@ -68,14 +89,15 @@ pub fn runs_ok(row: Row, begin: usize, total: usize) -> bool
     requires { (begin ≤ total) × (total ≤ 65536) }
     ensures { result ≡ runs_ok row begin total }
 {
-    match row.kind {
-        6 | 7 | 9 | 10 => row.a as usize == begin && begin + row.b as usize <= total,
-        8 => {
-            row.a as usize == begin
-                && row.c as usize == begin + row.b as usize
-                && begin + row.b as usize + row.d as usize <= total
+    match ObjectKind::try_from(row.kind) {
+        Ok(ObjectKind::Plain | ObjectKind::Sparse | ObjectKind::Map | ObjectKind::Set) => {
+            run_ok(row.a, row.b, begin, total)
         }
-        13 => row.d as usize == begin && begin + row.e as usize <= total,
+        Ok(ObjectKind::Dense) => {
+            run_ok(row.a, row.b, begin, total)
+                && run_ok(row.c, row.d, begin + row.b as usize, total)
+        }
+        Ok(ObjectKind::Error) => run_ok(row.d, row.e, begin, total),
         _ => true,
     }
 }
@@ -85,21 +107,24 @@ pub fn bytes_ok(row: Row, begin: usize, total: usize) -> bool
     requires { (begin ≤ total) × (total ≤ 1048576) }
     ensures { result ≡ bytes_ok row begin total }
 {
-    row.kind != 11 || row.a as usize == begin && begin + row.b as usize <= total
+    match ObjectKind::try_from(row.kind) {
+        Ok(ObjectKind::Buffer) => run_ok(row.a, row.b, begin, total),
+        _ => true,
+    }
 }
 
+// Bits of a regular expression's flags.
 const LINEAR: u32 = 64;
 
 const UNICODE: u32 = 16;
 
 const UNICODE_SETS: u32 = 256;
 
+#[tactic(auto, using(crate::proofs::Bits::flag_bits))]
 fn flags_ok(flags: u32) -> bool
     ensures { result ≡ flags_ok flags }
 {
-    flags < 512
-        && flags / LINEAR % 2 != 1
-        && !(flags / UNICODE % 2 == 1 && flags / UNICODE_SETS % 2 == 1)
+    flags < 512 && flags & LINEAR == 0 && (flags & UNICODE == 0 || flags & UNICODE_SETS == 0)
 }
 
 // The most milliseconds either way, and their negative in two's complement.
@@ -117,11 +142,25 @@ fn time_ok(time: u64) -> bool
 pub fn limits_ok(row: Row) -> bool
     ensures { result ≡ limits_ok row }
 {
-    match row.kind {
-        4 => flags_ok(row.b),
-        5 => time_ok(row.a as u64 + row.b as u64 * 0x1_0000_0000),
+    match ObjectKind::try_from(row.kind) {
+        Ok(ObjectKind::RegExp) => flags_ok(row.b),
+        Ok(ObjectKind::Date) => time_ok(joined(row.a, row.b)),
         _ => true,
     }
+}
+
+// The most bytes that a resizable buffer may have; none if it has one size.
+fn most_bytes(buffer: Row) -> Option<u32>
+    ensures { result ≡ cond (buffer.c == 1) (Some buffer.d) None }
+{
+    (buffer.c == 1).then_some(buffer.d)
+}
+
+// How many elements a view has; none if it tracks its buffer's length.
+fn elements(view: Row) -> Option<u32>
+    ensures { result ≡ cond (tracking view) None (Some view.d) }
+{
+    (view.e % 2 == 0).then_some(view.d)
 }
 
 // A view of elements of `size` bytes on the row `on`.
@@ -131,23 +170,20 @@ fn view_ok(row: Row, on: Row, size: usize) -> bool
 {
     let length = on.b as usize;
     let offset = row.c as usize;
-    let covered = if row.e % 2 == 1 {
-        0
-    } else {
-        row.d as usize * size
-    };
+    let covered = elements(row).map_or(0, |count| count as usize * size);
     let fits = offset % size == 0 && length % size == 0 && offset + covered <= length;
-    let resizable = on.c == 1;
-    on.kind == 11 && fits && if resizable { row.e >= 2 } else { row.e == 0 }
+    let resizable = most_bytes(on).is_some();
+    let flags_fit = if resizable { row.e >= 2 } else { row.e == 0 };
+    ObjectKind::try_from(on.kind) == Ok(ObjectKind::Buffer) && fits && flags_fit
 }
 
 // A resizable buffer is no longer than its maximum; a view stands on a buffer, the row `on`.
 pub fn buffers_ok(row: Row, on: Row) -> bool
     ensures { result ≡ buffers_ok row on }
 {
-    match row.kind {
-        11 => row.c != 1 || row.b <= row.d,
-        12 => view_ok(row, on, width(view_kind(row.b))),
+    match ObjectKind::try_from(row.kind) {
+        Ok(ObjectKind::Buffer) => most_bytes(row).is_none_or(|most| row.b <= most),
+        Ok(ObjectKind::View) => view_ok(row, on, width(view_kind(row.b))),
         _ => true,
     }
 }

@@ -1,7 +1,8 @@
 // A tally hands each byte on to a lent sink, and counts those that it took.
 ghost use Rattle.std.specs.Prelude.{◌≡◌};
 
-mod sink;
+use super::fault::SinkFault;
+use super::sink::Sink;
 
 #[derive(Drop)]
 pub struct Tally<'k, K> {
@@ -22,5 +23,18 @@ impl<'k, K> Tally<'k, K> {
         ensures { result ≡ self.now.count }
     {
         self.count
+    }
+}
+
+impl<K: Sink> Sink for Tally<'_, K> {
+    ghost use Rattle.sink.specs.Sinks.{tally_means};
+
+    ghost means = { tally_means K.Sink.means };
+
+    fn put(&mut self, byte: u8) -> Result<(), SinkFault> {
+        self.sink.put(byte)?;
+        // From 0 it does not wrap: all these bytes had space, and a space is below 2^64.
+        self.count = self.count.wrapping_add(1);
+        Ok(())
     }
 }

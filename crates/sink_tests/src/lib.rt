@@ -28,6 +28,7 @@ pub fn page_twice(memory: &mut [u8], bytes: &[u8]) -> Result<usize, SinkFault>
     Ok(page.len())
 }
 
+// The same at the other end. One function for both would need their two promises as a trait.
 pub fn count_twice(space: u64, bytes: &[u8]) -> Result<u64, SinkFault>
     ensures { CountedTwice space bytes.now result }
 {
@@ -59,5 +60,5 @@ pub fn repeat<K: Sink>(sink: &mut K, bytes: &[u8], times: usize) -> Result<(), S
 pub fn put_lent<K: Sink>(sink: &mut &mut K, bytes: &[u8]) -> Result<(), SinkFault>
     ensures { Put K.Sink.means sink.old.now bytes.now result sink.new.now }
 {
-    put_all(sink, bytes)
+    put_all::<&mut K>(sink, bytes)
 }

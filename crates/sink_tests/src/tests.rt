@@ -33,21 +33,21 @@ fn pages(rt: HostRuntime) {
     assert_eq!(rt; &memory, b"aabcx");
 }
 
-// A counter with `space` is given abc.
-fn counted(rt: &impl Abort, space: u64, answer: Result<(), SinkFault>, count: u64, left: u64) {
-    let mut counter = Counter::new(space);
-    assert_eq!(rt; put_all(&mut counter, b"abc"), answer);
-    assert_eq!(rt; counter.count(), count);
-    assert_eq!(rt; counter.space(), left);
-}
-
 #[test]
 fn counters(rt: HostRuntime) {
-    counted(&rt, 0, Err(SinkFault::Full), 0, 0);
-    counted(&rt, 1, Err(SinkFault::Full), 1, 0);
-    counted(&rt, 2, Err(SinkFault::Full), 2, 0);
-    counted(&rt, 3, Ok(()), 3, 0);
-    counted(&rt, u64::MAX, Ok(()), 3, u64::MAX - 3);
+    let full = Err(SinkFault::Full);
+    for (space, answer, count, left) in [
+        (0, full, 0, 0),
+        (1, full, 1, 0),
+        (2, full, 2, 0),
+        (3, Ok(()), 3, 0),
+        (u64::MAX, Ok(()), 3, u64::MAX - 3),
+    ] {
+        let mut counter = Counter::new(space);
+        assert_eq!(rt; put_all(&mut counter, b"abc"), answer, "at {space}");
+        assert_eq!(rt; counter.count(), count, "at {space}");
+        assert_eq!(rt; counter.space(), left, "at {space}");
+    }
 }
 
 #[test]

@@ -1,7 +1,2 @@
-pub mod Floats
-pub mod Decimals
-pub mod Wholes
 pub mod Sizes
-pub mod Steps
-pub mod Answering
 pub mod Examples

@@ -4,8 +4,8 @@ ghost use Rattle.speller.specs.Faults.{refusal};
 
 #[derive(Clone, Copy, PartialEq, Eq, Debug)]
 pub enum SpellFault {
-    Short,
-    Unspelled,
+    Short = 24,
+    Unspelled = 11,
 }
 
 impl SpellFault {
@@ -13,9 +13,6 @@ impl SpellFault {
     pub fn number(self) -> u8
         ensures { result ≡ (refusal self).number }
     {
-        match self {
-            SpellFault::Short => 24,
-            SpellFault::Unspelled => 11,
-        }
+        self as u8
     }
 }

@@ -4,6 +4,9 @@ ghost use Rattle.speller.specs.Spelling.{Spells, Found, Distinct, Shaped, Lawful
 
 use super::fault::SpellFault;
 
+// No lawful numeral is longer.
+pub use numeral::numerals::LONGEST_NUMERAL;
+
 pub trait Speller {
     // The length of the longest numeral.
     const LONGEST: usize;
@@ -11,26 +14,39 @@ pub trait Speller {
     // The numeral, in ASCII, of the double with some bits, if it has one.
     ghost means: { Self → ℕ → Option (List ℕ) };
 
-    // `LONGEST`, as the clauses cite it.
+    // `LONGEST`, as the clauses cite it: an impl with a lifetime cannot tie its constant to a ghost
+    // member of the same name, so `most` does.
     ghost most: { ℕ };
 
-    // `LONGEST`, with its promise, for code that knows a speller only by this trait.
+    // `LONGEST`, with its promise.
     fn most() -> usize
         ensures is { result ≡ most }
         ensures bound { most ≤ 400 };
 
     // Writes the numeral to the front of the buffer, and tells its length. A buffer that is too
-    // short for the longest numeral is refused first, whatever the bits.
+    // short for the longest numeral is refused first, whatever the bits. Each impl has its own body: one
+    // for all would want a type for what was found, and two more functions with promises.
     fn spell(&self, bits: u64, buffer: &mut [u8]) -> Result<usize, SpellFault>
         ensures { Spells (means self.now bits) most buffer.old result buffer.new };
 
+    // 400 bytes have room for every numeral.
+    ghost bound: { most ≤ 400 };
+
+    // No numeral occurs twice.
+    ghost apart: { (speller : Self) → Distinct (means speller) };
+
+    // Each numeral may be given for its double.
+    ghost fit: { (speller : Self) → Shaped (means speller) };
+
     // Promises that no numeral occurs twice.
-    fn distinct(&self)
-        ensures { Distinct (means self.now) };
+    final fn distinct(&self)
+        ensures { Distinct (means self.now) }
+    {}
 
     // Promises that each numeral may be given for its double.
-    fn shaped(&self)
-        ensures { Shaped (means self.now) };
+    final fn shaped(&self)
+        ensures { Shaped (means self.now) }
+    {}
 }
 
 // Both promises of a speller.
@@ -41,12 +57,15 @@ pub fn lawful<S: Speller>(speller: &S)
     speller.shaped();
 }
 
-// Writes the numeral to the front of `scratch`, and tells its length.
-pub fn numeral_of<S: Speller>(speller: &S, bits: u64, scratch: &mut [u8; 400]) -> Option<usize>
+// Writes the numeral to the front of `scratch`, and tells its length, as `Read::read` does: of a
+// buffer that is lent on in the result, the clause could not say what it holds afterwards.
+pub fn numeral_of<S: Speller>(
+    speller: &S,
+    bits: u64,
+    scratch: &mut [u8; LONGEST_NUMERAL],
+) -> Option<usize>
     ensures { Found (S.Speller.means speller.now bits) scratch.old result scratch.new }
 {
-    // Its promise is that 400 bytes have room for every numeral.
-    let _ = S::most();
     match speller.spell(bits, scratch) {
         Ok(n) => Some(n),
         Err(SpellFault::Unspelled) => None,

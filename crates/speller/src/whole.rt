@@ -1,17 +1,17 @@
 // The speller of whole numbers.
 ghost use Rattle.std.specs.Prelude.{◌≡◌, ◌<◌, ◌≤◌, ◌++◌, length, drop, IfSome};
+ghost use Rattle.std.proofs.Common.{rules};
 ghost use Rattle.speller.specs.Whole.{numeral_of, plain, size_of, whole, Wholes};
+ghost use Rattle.speller.specs.Wholes.{distinct, shaped};
 
 use super::decimal::put_decimal;
 use super::fault::SpellFault;
 use super::spelling::Speller;
+use numeral::numerals::{LAST_WHOLE, SIGN};
 use std::num::{f64_from_bits_with_nan, saturating_f64_to_u64};
 
-// The bit that a double below zero has, and minus zero.
-const SIGN: u64 = 0x8000_0000_0000_0000;
-
 // The last whole number before 2^53: up to here each is a double, and no two are one.
-const LIMIT: u64 = 9_007_199_254_740_991;
+const LIMIT: u64 = LAST_WHOLE;
 
 // Spells every whole number below 2^53 in size, and minus zero as `-0`.
 pub struct Whole;
@@ -38,6 +38,7 @@ fn size_of(bits: u64) -> Option<u64>
 }
 
 // Writes the number to the front, and tells how long it is.
+#[tactic(auto, using(crate::specs::Decimals::decimal_short))]
 fn put_whole(negative: bool, n: u64, buffer: &mut [u8]) -> usize
     requires { (n ≤ 9007199254740991) × (17 ≤ length buffer.old) }
     ensures long { result ≡ length (numeral_of negative n) }
@@ -73,13 +74,16 @@ impl Speller for Whole {
         Ok(put_whole(bits >= SIGN, n, buffer))
     }
 
-    fn distinct(&self) {}
+    ghost bound = { Prim.search rules };
 
-    fn shaped(&self) {}
+    ghost apart = { λ _. distinct };
+
+    ghost fit = { λ _. shaped };
 }
 
 impl Whole {
     // Promises that the numerals are those of the whole numbers below 2^53 in size, and no others.
+    #[tactic(auto, using(crate::specs::Wholes::wholes))]
     pub fn exact(&self)
         ensures { Wholes whole }
     {}

@@ -2,6 +2,7 @@
 use speller::fault::SpellFault;
 use speller::spelling::{Speller, numeral_of};
 use speller::whole::Whole;
+use std::process::Abort;
 
 const ZERO: u64 = 0x0000_0000_0000_0000;
 
@@ -44,87 +45,84 @@ const FILL: u8 = 0x23;
 
 // The buffer begins with `text`, and the rest is as it was.
 fn holds(buffer: &[u8], text: &[u8]) -> bool {
-    for (k, b) in buffer.iter().enumerate() {
-        let expected = if k < text.len() { text[k] } else { FILL };
-        if *b != expected {
-            return false;
-        }
-    }
-    text.len() <= buffer.len()
+    buffer
+        .strip_prefix(text)
+        .is_some_and(|rest| rest.iter().all(|b| *b == FILL))
 }
 
-// The bits are spelled so, in the least buffer and in a larger one.
-fn spelled(bits: u64, text: &[u8]) -> bool {
-    let mut least = [FILL; 17];
-    let mut large = [FILL; 40];
-    Whole.spell(bits, &mut least) == Ok(text.len())
-        && holds(&least, text)
-        && Whole.spell(bits, &mut large) == Ok(text.len())
-        && holds(&large, text)
+// What the buffer gets for an answer, and what it holds then.
+fn spells(
+    rt: &impl Abort,
+    buffer: &mut [u8],
+    bits: u64,
+    answer: Result<usize, SpellFault>,
+    text: &[u8],
+) {
+    assert_eq!(rt; Whole.spell(bits, buffer), answer, "at {bits}");
+    assert!(rt; holds(buffer, text), "at {bits}");
 }
 
-// The bits are refused so in a buffer of 17 bytes, and nothing is written.
-fn unspelled(bits: u64) -> bool {
-    let mut buffer = [FILL; 17];
-    Whole.spell(bits, &mut buffer) == Err(SpellFault::Unspelled) && holds(&buffer, b"")
-}
-
-// The bits are refused so in a buffer of 16 bytes, and nothing is written.
-fn short(bits: u64) -> bool {
-    let mut buffer = [FILL; 16];
-    Whole.spell(bits, &mut buffer) == Err(SpellFault::Short) && holds(&buffer, b"")
-}
-
+// In the least buffer and in a larger one.
 #[test]
 fn whole_numbers(rt: HostRuntime) {
-    assert!(rt; spelled(ZERO, b"0"));
-    assert!(rt; spelled(MINUS_ZERO, b"-0"));
-    assert!(rt; spelled(ONE, b"1"));
-    assert!(rt; spelled(MINUS_ONE, b"-1"));
-    assert!(rt; spelled(TWELVE, b"12"));
-    assert!(rt; spelled(MILLION, b"1000000"));
-    assert!(rt; spelled(LAST, b"9007199254740991"));
-    assert!(rt; spelled(MINUS_LAST, b"-9007199254740991"));
+    for (bits, text) in [
+        (ZERO, "0"),
+        (MINUS_ZERO, "-0"),
+        (ONE, "1"),
+        (MINUS_ONE, "-1"),
+        (TWELVE, "12"),
+        (MILLION, "1000000"),
+        (LAST, "9007199254740991"),
+        (MINUS_LAST, "-9007199254740991"),
+    ] {
+        spells(&rt, &mut [FILL; 17], bits, Ok(text.len()), text.as_bytes());
+        spells(&rt, &mut [FILL; 40], bits, Ok(text.len()), text.as_bytes());
+    }
 }
 
 #[test]
 fn other_doubles(rt: HostRuntime) {
-    assert!(rt; unspelled(PAST));
-    assert!(rt; unspelled(MINUS_PAST));
-    assert!(rt; unspelled(HALF));
-    assert!(rt; unspelled(ONE_AND_A_HALF));
-    assert!(rt; unspelled(LEAST));
-    assert!(rt; unspelled(GREATEST));
-    assert!(rt; unspelled(INFINITY));
-    assert!(rt; unspelled(MINUS_INFINITY));
-    assert!(rt; unspelled(NAN));
-    assert!(rt; unspelled(MINUS_NAN));
+    for bits in [
+        PAST,
+        MINUS_PAST,
+        HALF,
+        ONE_AND_A_HALF,
+        LEAST,
+        GREATEST,
+        INFINITY,
+        MINUS_INFINITY,
+        NAN,
+        MINUS_NAN,
+    ] {
+        spells(&rt, &mut [FILL; 17], bits, Err(SpellFault::Unspelled), b"");
+    }
 }
 
 #[test]
 fn short_buffers(rt: HostRuntime) {
-    assert!(rt; short(ZERO));
-    assert!(rt; short(MINUS_LAST));
-    assert!(rt; short(HALF));
-    assert!(rt; short(NAN));
-    assert!(rt; Whole.spell(ONE, &mut []) == Err(SpellFault::Short));
+    for bits in [ZERO, MINUS_LAST, HALF, NAN] {
+        spells(&rt, &mut [FILL; 16], bits, Err(SpellFault::Short), b"");
+    }
+    spells(&rt, &mut [FILL; 0], ONE, Err(SpellFault::Short), b"");
 }
 
 #[test]
 fn scratch(rt: HostRuntime) {
     let mut buffer = [FILL; 400];
-    assert!(rt; numeral_of(&Whole, HALF, &mut buffer).is_none() && holds(&buffer, b""));
-    assert!(rt; numeral_of(&Whole, MINUS_ONE, &mut buffer) == Some(2) && holds(&buffer, b"-1"));
+    assert_eq!(rt; numeral_of(&Whole, HALF, &mut buffer), None);
+    assert!(rt; holds(&buffer, b""));
+    assert_eq!(rt; numeral_of(&Whole, MINUS_ONE, &mut buffer), Some(2));
+    assert!(rt; holds(&buffer, b"-1"));
 }
 
 #[test]
 fn longest(rt: HostRuntime) {
-    assert!(rt; Whole::LONGEST == 17);
-    assert!(rt; Whole::most() == 17);
+    assert_eq!(rt; Whole::LONGEST, 17);
+    assert_eq!(rt; Whole::most(), 17);
 }
 
 #[test]
 fn numbers(rt: HostRuntime) {
-    assert!(rt; SpellFault::Short.number() == 24);
-    assert!(rt; SpellFault::Unspelled.number() == 11);
+    assert_eq!(rt; SpellFault::Short.number(), 24);
+    assert_eq!(rt; SpellFault::Unspelled.number(), 11);
 }

@@ -1,56 +1,10 @@
 -- Looking bits up in a list of numerals.
-use Rattle.std.proofs.Common.{◌≡◌, ℕ, ◌+◌, ◌<◌, ◌≤◌, true, false, cond, eqb, ◌⊎◌, List, [], ◌∷◌, length, get_or, drop, Some, None, sym, refl, ap, ◌∙◌, inl, inr, ⊎_elim, arith}
-use Rattle.std.specs.List.{AllByRecursion as All}
+use Rattle.std.proofs.Common.{◌≡◌, ℕ, zero, suc, ◌+◌, ◌<◌, ◌≤◌, cond, eqb, List, length, get_or, drop, Some, None, Option, refl, sym, ap, ◌∙◌, arith}
+use Rattle.std.specs.Option.{MatchOption}
 use Rattle.std.proofs.lemmas.List.{drop_more, drop_all}
-use Rattle.std.proofs.lemmas.Bool.{eqb-true, eq-eqb, ne_eqb, cond-true, cond-false}
+use Rattle.std.proofs.lemmas.Bool.{eq-eqb, ne_eqb, cond-true, cond-false}
 use Rattle.dump.specs.Heaps.{Numeral, empty_numeral}
-use Rattle.numeral.specs.Numerals.{is_pair}
-use Rattle.formed.specs.Formed.{Pairwise}
-use Rattle.speller.specs.Spelling.{Distinct, Shaped}
-use Rattle.table.specs.Tables.{numeral_in}
-
--- the first numeral, or one behind it
-pub either : (n : Numeral) (ns : List Numeral) (bits : ℕ) (t : List ℕ) → numeral_in (n ∷ ns) bits ≡ Some t → ((n.bits ≡ bits) × (n.digits ≡ t)) ⊎ (numeral_in ns bits ≡ Some t)
-either n ns bits t h =
-    elim (eqb n.bits bits) as (λ x. eqb n.bits bits ≡ x → cond x (Some n.digits) (numeral_in ns bits) ≡ Some t → ((n.bits ≡ bits) × (n.digits ≡ t)) ⊎ (numeral_in ns bits ≡ Some t))
-    [ true ↦ λ e g. inl (eqb-true n.bits bits e, cc) | false ↦ λ _ g. inr g ]
-    refl h
-
-pub shaped : (ns : List Numeral) → All (λ n. is_pair n.bits n.digits ≡ true) ns → Shaped (numeral_in ns)
-shaped [] all bits t h = absurd (let z : ◌≡◌ {A = ℕ} 0 1 = cc in omega arith)
-shaped (n ∷ ns) all bits t h =
-    ⊎_elim
-    (λ (e : (n.bits ≡ bits) × (n.digits ≡ t)). let p : is_pair n.bits n.digits ≡ is_pair bits t = λ i. is_pair (e.0 i) (e.1 i) in sym p ∙ all.0)
-    (λ (e : numeral_in ns bits ≡ Some t). shaped ns all.1 bits t e)
-    (either n ns bits t h)
-
--- two numerals with other bits and other digits
-abbrev pub Apart : Numeral → Numeral → Type 0
-Apart m n = (m.bits ≡ n.bits → ⊥) × (m.digits ≡ n.digits → ⊥)
-
-pub absent : (m : Numeral) (ns : List Numeral) (bits : ℕ) (t : List ℕ) → All (Apart m) ns → m.digits ≡ t → numeral_in ns bits ≡ Some t → ⊥
-absent m [] bits t all d h = let z : ◌≡◌ {A = ℕ} 0 1 = cc in omega arith
-absent m (n ∷ ns) bits t all d h =
-    ⊎_elim
-    (λ (e : (n.bits ≡ bits) × (n.digits ≡ t)). all.0.1 (d ∙ sym e.1))
-    (λ (e : numeral_in ns bits ≡ Some t). absent m ns bits t all.1 d e)
-    (either n ns bits t h)
-
-pub distinct : (ns : List Numeral) → Pairwise Apart ns → Distinct (numeral_in ns)
-distinct [] all a b t h g = absurd (let z : ◌≡◌ {A = ℕ} 0 1 = cc in omega arith)
-distinct (n ∷ ns) all a b t h g =
-    ⊎_elim
-    (λ (e : (n.bits ≡ a) × (n.digits ≡ t)).
-    ⊎_elim
-    (λ (f : (n.bits ≡ b) × (n.digits ≡ t)). sym e.0 ∙ f.0)
-    (λ (f : numeral_in ns b ≡ Some t). absurd (absent n ns b t all.0 e.1 f))
-    (either n ns b t g))
-    (λ (e : numeral_in ns a ≡ Some t).
-    ⊎_elim
-    (λ (f : (n.bits ≡ b) × (n.digits ≡ t)). absurd (absent n ns a t all.0 f.1 e))
-    (λ (f : numeral_in ns b ≡ Some t). distinct ns all.1 a b t e f)
-    (either n ns b t g))
-    (either n ns a t h)
+use Rattle.table.specs.Tables.{numeral_in, Finds}
 
 -- a search from the first numeral on, at place i
 module _ (ns : List Numeral) (bits i : ℕ) (left : numeral_in ns bits ≡ numeral_in (drop i ns) bits) where
@@ -66,3 +20,19 @@ module _ (ns : List Numeral) (bits i : ℕ) (left : numeral_in ns bits ≡ numer
 
   pub nowhere : length ns ≤ i → numeral_in ns bits ≡ None
   nowhere end = left ∙ ap (λ l. numeral_in l bits) (drop_all i ns end)
+
+-- no numeral before place i has the bits
+pub skipped : (ns : List Numeral) (bits i : ℕ) → i ≤ length ns → ((k : ℕ) → k < i → (get_or ns k empty_numeral).bits ≡ bits → ⊥) → numeral_in ns bits ≡ numeral_in (drop i ns) bits
+skipped ns bits zero fits other = refl
+skipped ns bits (suc i) fits other =
+    let e : suc i ≡ i + 1 = omega arith in
+    passed ns bits i (skipped ns bits i (omega arith) (λ k h. other k (omega arith))) (omega arith) (other i (omega arith)) ∙ ap (λ n. numeral_in (drop n ns) bits) (sym e)
+
+-- what a search over all places gives
+pub finds : (ns : List Numeral) (bits n : ℕ) (r : Option ℕ) → n ≡ length ns
+    → MatchOption r ((k : ℕ) → 0 ≤ k → k < n → (get_or ns k empty_numeral).bits ≡ bits → ⊥) (λ i. (0 ≤ i) × (i < n) × ((get_or ns i empty_numeral).bits ≡ bits) × ((k : ℕ) → 0 ≤ k → k < i → (get_or ns k empty_numeral).bits ≡ bits → ⊥))
+    → Finds ns bits r
+finds ns bits n None all h = nowhere ns bits n (skipped ns bits n (omega arith) (λ k l. h k (omega arith) l)) (omega arith)
+finds ns bits n (Some i) all h =
+    let there : i < length ns = omega (arith, h.1) in
+    (there, found ns bits i (skipped ns bits i (omega arith) (λ k l. h.3 k (omega arith) l)) there h.2)

@@ -1,2 +1,3 @@
-pub mod Tables
+pub mod Laws
 pub mod Readings
+pub mod Tables

@@ -2,11 +2,14 @@
 #![tactic(auto)]
 
 ghost use Rattle.std.specs.Prelude.{◌≡◌, ◌<◌, ◌≤◌, ◌++◌, length, drop, slice_index_or};
+ghost use Rattle.std.proofs.Common.{rules};
 ghost use Rattle.dump.specs.Heaps.{empty_numeral};
 ghost use Rattle.heap_check.specs.Heaps.{model};
+ghost use Rattle.table.specs.Laws.{rows_distinct, rows_shaped};
 ghost use Rattle.table.specs.Tables.{numeral_in, Finds};
 
 use heap_check::checked::Checked;
+use numeral::numerals::LONGEST_NUMERAL;
 use speller::fault::SpellFault;
 use speller::spelling::Speller;
 
@@ -29,12 +32,7 @@ impl Table<'_> {
     fn find(&self, bits: u64) -> Option<usize>
         ensures { Finds (model self.now.rows).numerals bits result }
     {
-        for i in 0..self.rows.numerals() {
-            if self.rows.numeral_bits(i) == bits {
-                return Some(i);
-            }
-        }
-        None
+        (0..self.rows.numerals()).find(|&i| self.rows.numeral_bits(i) == bits)
     }
 
     // Writes the digits of row `i` to the front, and tells how many they are.
@@ -45,22 +43,22 @@ impl Table<'_> {
         ensures short { result ≤ 400 }
         ensures written { buffer.new ≡ (slice_index_or (model self.now.rows).numerals i empty_numeral).digits ++ drop result buffer.old }
     {
-        let run = self.rows.numeral_digits(i);
-        for k in 0..run.count {
-            buffer[k] = self.rows.unit(run, k) as u8;
+        let text = self.rows.numeral_digits(i);
+        for k in 0..text.len() {
+            buffer[k] = text.unit(k) as u8;
         }
-        run.count
+        text.len()
     }
 }
 
 impl Speller for Table<'_> {
-    const LONGEST: usize = 400;
+    const LONGEST: usize = LONGEST_NUMERAL;
 
     ghost means = { λ t. numeral_in (model t.rows).numerals };
 
     ghost most = { 400 };
 
-    // The clauses of the trait, which have to be written out here.
+    // The clauses of the trait, which an impl with a lifetime has to write out.
     fn most() -> usize
         ensures is { result ≡ 400 }
         ensures bound { 400 ≤ 400 }
@@ -78,7 +76,9 @@ impl Speller for Table<'_> {
         Ok(self.put(i, buffer))
     }
 
-    fn distinct(&self) {}
+    ghost bound = { Prim.search rules };
 
-    fn shaped(&self) {}
+    ghost apart = { λ t. rows_distinct t.rows };
+
+    ghost fit = { λ t. rows_shaped t.rows };
 }

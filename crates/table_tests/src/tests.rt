@@ -26,85 +26,70 @@ const FILL: u8 = 0x23;
 
 // The buffer begins with `text`, and the rest is as it was.
 fn holds(buffer: &[u8], text: &[u8]) -> bool {
-    for (k, b) in buffer.iter().enumerate() {
-        let expected = if k < text.len() { text[k] } else { FILL };
-        if *b != expected {
-            return false;
-        }
-    }
-    text.len() <= buffer.len()
+    buffer
+        .strip_prefix(text)
+        .is_some_and(|rest| rest.iter().all(|b| *b == FILL))
 }
 
-// The bits are spelled so, in the least buffer and in a larger one.
-fn spelled(table: &Table, bits: u64, text: &[u8]) -> bool {
-    let mut least = [FILL; 400];
-    let mut large = [FILL; 410];
-    table.spell(bits, &mut least) == Ok(text.len())
-        && holds(&least, text)
-        && table.spell(bits, &mut large) == Ok(text.len())
-        && holds(&large, text)
-}
-
-// The bits have no numeral, and nothing is written.
-fn unspelled(table: &Table, bits: u64) -> bool {
-    let mut buffer = [FILL; 400];
-    table.spell(bits, &mut buffer) == Err(SpellFault::Unspelled) && holds(&buffer, b"")
-}
-
-// A buffer of 399 bytes is refused, and nothing is written.
-fn short(table: &Table, bits: u64) -> bool {
-    let mut buffer = [FILL; 399];
-    table.spell(bits, &mut buffer) == Err(SpellFault::Short) && holds(&buffer, b"")
-}
-
-fn two_numerals<'a>(rt: &impl Abort, dump: &'a [u8]) {
-    let mut heap: Heap<'a> = Heap::new();
-    assert!(rt; heap.check(dump).is_ok());
-    let table = Table::new(heap.checked());
-    assert!(rt; spelled(&table, MINUS_ZERO, b"-0"));
-    assert!(rt; spelled(&table, ONE_AND_A_HALF, b"1.5"));
-    assert!(rt; unspelled(&table, ZERO));
-    assert!(rt; unspelled(&table, TWO_AND_A_HALF));
-    assert!(rt; short(&table, ONE_AND_A_HALF));
-    assert!(rt; short(&table, TWO_AND_A_HALF));
-}
-
-fn no_numeral<'a>(rt: &impl Abort, dump: &'a [u8]) {
-    let mut heap: Heap<'a> = Heap::new();
-    assert!(rt; heap.check(dump).is_ok());
-    let table = Table::new(heap.checked());
-    assert!(rt; unspelled(&table, ZERO));
-    assert!(rt; short(&table, ZERO));
-}
-
-fn scratch_of<'a>(rt: &impl Abort, dump: &'a [u8]) {
-    let mut heap: Heap<'a> = Heap::new();
-    assert!(rt; heap.check(dump).is_ok());
-    let table = Table::new(heap.checked());
-    let mut buffer = [FILL; 400];
-    assert!(rt; numeral_of(&table, TWO_AND_A_HALF, &mut buffer).is_none() && holds(&buffer, b""));
-    assert!(rt;
-        numeral_of(&table, ONE_AND_A_HALF, &mut buffer) == Some(3) && holds(&buffer, b"1.5")
-    );
+// What the buffer gets for an answer, and what it holds then.
+fn spells(
+    rt: &impl Abort,
+    table: &Table,
+    buffer: &mut [u8],
+    bits: u64,
+    answer: Result<usize, SpellFault>,
+    text: &[u8],
+) {
+    assert_eq!(rt; table.spell(bits, buffer), answer, "at {bits}");
+    assert!(rt; holds(buffer, text), "at {bits}");
 }
 
 #[test]
 fn two(rt: HostRuntime) {
-    two_numerals(&rt, TWO);
+    let mut heap = Heap::new();
+    assert!(rt; heap.check(TWO).is_ok());
+    let table = Table::new(heap.checked());
+    for (bits, text) in [(MINUS_ZERO, "-0"), (ONE_AND_A_HALF, "1.5")] {
+        // In the least buffer and in a larger one.
+        let answer = Ok(text.len());
+        spells(&rt, &table, &mut [FILL; 400], bits, answer, text.as_bytes());
+        spells(&rt, &table, &mut [FILL; 410], bits, answer, text.as_bytes());
+    }
+    for bits in [ZERO, TWO_AND_A_HALF] {
+        let answer = Err(SpellFault::Unspelled);
+        spells(&rt, &table, &mut [FILL; 400], bits, answer, b"");
+    }
+    for bits in [ONE_AND_A_HALF, TWO_AND_A_HALF] {
+        let answer = Err(SpellFault::Short);
+        spells(&rt, &table, &mut [FILL; 399], bits, answer, b"");
+    }
 }
 
 #[test]
 fn none(rt: HostRuntime) {
-    no_numeral(&rt, NONE);
+    let mut heap = Heap::new();
+    assert!(rt; heap.check(NONE).is_ok());
+    let table = Table::new(heap.checked());
+    let unspelled = Err(SpellFault::Unspelled);
+    spells(&rt, &table, &mut [FILL; 400], ZERO, unspelled, b"");
+    let short = Err(SpellFault::Short);
+    spells(&rt, &table, &mut [FILL; 399], ZERO, short, b"");
 }
 
 #[test]
 fn scratch(rt: HostRuntime) {
-    scratch_of(&rt, TWO);
+    let mut heap = Heap::new();
+    assert!(rt; heap.check(TWO).is_ok());
+    let table = Table::new(heap.checked());
+    let mut buffer = [FILL; 400];
+    assert_eq!(rt; numeral_of(&table, TWO_AND_A_HALF, &mut buffer), None);
+    assert!(rt; holds(&buffer, b""));
+    assert_eq!(rt; numeral_of(&table, ONE_AND_A_HALF, &mut buffer), Some(3));
+    assert!(rt; holds(&buffer, b"1.5"));
 }
 
 #[test]
 fn longest(rt: HostRuntime) {
-    assert!(rt; Table::LONGEST == 400);
-    assert!(rt; Table::most() == 400);
+    assert_eq!(rt; Table::LONGEST, 400);
+    assert_eq!(rt; Table::most(), 400);
 }

@@ -11,13 +11,9 @@ use std::time::Instant;
 // How many rows an accepted dump has. The answer is printed, so that the check is not left out.
 fn rows<'a>(dump: &'a [u8]) -> Option<usize> {
     let mut heap: Heap<'a> = Heap::new();
-    match heap.check(dump) {
-        Ok(()) => {
-            let found = heap.checked();
-            found.texts().checked_add(found.parts())
-        }
-        Err(_) => None,
-    }
+    heap.check(dump).ok()?;
+    let found = heap.checked();
+    found.texts().checked_add(found.parts())
 }
 
 fn main(rt: HostRuntime) -> io::Result<()> {

@@ -3,7 +3,7 @@ ghost use Rattle.std.specs.Prelude.{◌≡◌, ℕ, ◌+◌, ◌*◌, ◌^◌, �
 ghost use Rattle.dump.specs.Raws.{bytes};
 ghost use Rattle.dump.specs.Places.{first_of, count_of, begin_of, text_run, cell_at, numeral_bits, numeral_text, row_at, key_at, value_at, root_at};
 
-use super::super::bytes::word;
+use super::super::bytes::{joined, word};
 use super::super::row::{Cell, Row, Run};
 use super::Raw;
 
@@ -53,7 +53,7 @@ impl Raw<'_> {
         ensures { result ≡ numeral_bits (bytes self.now) self.now.layout i }
     {
         let p = self.layout.numerals.start + i * 12;
-        word(self.dump, p) as u64 + word(self.dump, p + 4) as u64 * 0x1_0000_0000
+        joined(word(self.dump, p), word(self.dump, p + 4))
     }
 
     // The number of the text of a numeral row.
@@ -64,7 +64,7 @@ impl Raw<'_> {
         word(self.dump, self.layout.numerals.start + i * 12 + 8) as usize
     }
 
-    // An object's row.
+    // An object's row. `array::from_fn` would give an array of words: that each is the word at its place did not close.
     pub fn row(&self, i: usize) -> Row
         requires { i < self.now.layout.objects.count }
         ensures { result ≡ row_at (bytes self.now) self.now.layout i }

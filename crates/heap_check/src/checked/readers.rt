@@ -1,24 +1,29 @@
 // Reading a checked dump, row by row.
 ghost use Rattle.std.specs.Prelude.{◌≡◌, ◌<◌, length, get_or, Ok, slice_index, slice_index_or};
-ghost use Rattle.dump.specs.Places.{units_of};
-ghost use Rattle.reads.specs.Typed.{RunFits, OctetsFit, octets_of, value_in, ValueFits, ValueThere, kind_in, KindFits, part_in, PartFits, PartThere};
+ghost use Rattle.dump.specs.Texts.{text_units};
+ghost use Rattle.reads.specs.Typed.{value_in, ValueThere, kind_in, part_in, PartThere};
 ghost use Rattle.dump.specs.Heaps.{nobody, no_part, empty_numeral};
 ghost use Rattle.rules.specs.Verdicts.{verdict};
 ghost use Rattle.formed.specs.Formed.{Formed};
-ghost use Rattle.heap_check.specs.Heaps.{model};
-ghost use Rattle.heap_check.specs.Heaps.{dump_of};
+ghost use Rattle.heap_check.specs.Heaps.{model, dump_of};
 
 use super::Checked;
-use dump::bytes::unit;
-use dump::row::Run;
+use dump::text::Text;
 use reads::cells::value_of;
 use reads::kinds::kind_of;
-use reads::object::{Kind, Octets, Part};
+use reads::object::{Kind, Part};
 use reads::parts::{part_count, part_of};
 use reads::value::Value;
-use rules::texts::run_of;
+use rules::texts::Texts;
 
-impl Checked<'_> {
+impl<'a> Checked<'a> {
+    // The texts of a sound dump keep their rules.
+    fn sound_texts(&self) -> Texts<'a>
+        ensures { result.raw ≡ self.now.raw }
+    {
+        Texts { raw: self.raw }
+    }
+
     // How many texts there are, and below parts, numerals and objects.
     pub fn texts(&self) -> usize
         ensures { result ≡ self.now.raw.layout.texts.count }
@@ -44,12 +49,11 @@ impl Checked<'_> {
         self.raw.layout.objects.count
     }
 
-    pub fn root(&self) -> Value
-        ensures is { value_in (dump_of self.now) result ≡ (model self.now).root }
-        ensures fits { ValueFits (dump_of self.now) result }
+    pub fn root(&self) -> Value<'a>
+        ensures is { value_in result ≡ (model self.now).root }
         ensures there { ValueThere (length (model self.now).objects) result }
     {
-        value_of(&self.raw, self.raw.root())
+        value_of(&self.sound_texts(), self.raw.root())
     }
 
     // The bits of the double of a numeral.
@@ -61,21 +65,19 @@ impl Checked<'_> {
     }
 
     // The text of a numeral.
-    pub fn numeral_digits(&self, i: usize) -> Run
+    pub fn numeral_digits(&self, i: usize) -> Text<'a>
         requires { i < length (model self.now).numerals }
-        ensures is { units_of (dump_of self.now) result ≡ (get_or (model self.now).numerals i empty_numeral).digits }
-        ensures fits { RunFits (dump_of self.now) result }
+        ensures { text_units result ≡ (get_or (model self.now).numerals i empty_numeral).digits }
     {
-        run_of(&self.raw, self.raw.numeral_text(i))
+        self.sound_texts().text(self.raw.numeral_text(i))
     }
 
     // What an object has besides its parts.
-    pub fn kind(&self, i: usize) -> Kind
+    pub fn kind(&self, i: usize) -> Kind<'a>
         requires { i < length (model self.now).objects }
-        ensures is { kind_in (dump_of self.now) result ≡ (get_or (model self.now).objects i nobody).kind }
-        ensures fits { KindFits (dump_of self.now) result }
+        ensures { kind_in result ≡ (get_or (model self.now).objects i nobody).kind }
     {
-        kind_of(&self.raw, self.raw.row(i))
+        kind_of(&self.sound_texts(), self.raw.row(i))
     }
 
     // How many parts an object has.
@@ -87,32 +89,29 @@ impl Checked<'_> {
     }
 
     // The part `k` of an object.
-    pub fn part(&self, i: usize, k: usize) -> Part
+    pub fn part(&self, i: usize, k: usize) -> Part<'a>
         requires object { i < length (model self.now).objects }
         requires part { k < length (get_or (model self.now).objects i nobody).parts }
-        ensures is { part_in (dump_of self.now) result ≡ slice_index_or (get_or (model self.now).objects i nobody).parts k no_part }
-        ensures fits { PartFits (dump_of self.now) result }
+        ensures is { part_in result ≡ slice_index_or (get_or (model self.now).objects i nobody).parts k no_part }
         ensures there { PartThere (length (model self.now).objects) result }
     {
-        part_of(&self.raw, self.raw.row(i), k)
+        part_of(&self.sound_texts(), self.raw.row(i), k)
     }
 
     // A unit of a text.
-    pub fn unit(&self, run: Run, k: usize) -> u16
-        requires fits { RunFits (dump_of self.now) run }
-        requires here { k < run.count }
-        ensures { result ≡ slice_index (units_of (dump_of self.now) run) k }
+    pub fn unit(&self, text: Text<'_>, k: usize) -> u16
+        requires { k < length (text_units text) }
+        ensures { result ≡ slice_index (text_units text.entry) k }
     {
-        unit(self.raw.dump, run.start + k * 2)
+        text.unit(k)
     }
 
     // A byte of a buffer.
-    pub fn byte(&self, octets: Octets, k: usize) -> u8
-        requires fits { OctetsFit (dump_of self.now) octets }
-        requires here { k < octets.count }
-        ensures { result ≡ slice_index (octets_of (dump_of self.now) octets) k }
+    pub fn byte(&self, octets: &[u8], k: usize) -> u8
+        requires { k < length octets.now }
+        ensures { result ≡ slice_index octets.now k }
     {
-        self.raw.dump[octets.start + k]
+        octets[k]
     }
 
     // Whatever is checked is what an accepted dump means, and well formed. A call that does nothing, for callers' proofs.

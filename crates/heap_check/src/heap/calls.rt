@@ -18,45 +18,40 @@ use rules::rows::rows;
 const EMPTY: &[u8; 40] =
     b"\0\0\0\0\0\0\0\0\0\0\0\0\0\0\0\0\0\0\0\0\0\0\0\0\x01\0\0\0\0\0\0\0\0\0\0\0\0\0\0\0";
 
+// Where its sections stand, each behind a count.
+const EMPTY_LAYOUT: Layout = Layout {
+    texts: Section { start: 4, count: 0 },
+    units: Section { start: 8, count: 0 },
+    numerals: Section {
+        start: 12,
+        count: 0,
+    },
+    octets: Section {
+        start: 16,
+        count: 0,
+    },
+    objects: Section {
+        start: 20,
+        count: 0,
+    },
+    parts: Section {
+        start: 24,
+        count: 0,
+    },
+    root: Section {
+        start: 28,
+        count: 1,
+    },
+};
+
 impl<'a> Heap<'a> {
     // The heap with nothing in it, and the root undefined.
     pub fn new() -> Heap<'a>
         ensures { model result.checked ≡ nothing }
     {
-        let texts = Section { start: 4, count: 0 };
-        let units = Section { start: 8, count: 0 };
-        let numerals = Section {
-            start: 12,
-            count: 0,
-        };
-        let octets = Section {
-            start: 16,
-            count: 0,
-        };
-        let objects = Section {
-            start: 20,
-            count: 0,
-        };
-        let parts = Section {
-            start: 24,
-            count: 0,
-        };
-        let root = Section {
-            start: 28,
-            count: 1,
-        };
-        let layout = Layout {
-            texts,
-            units,
-            numerals,
-            octets,
-            objects,
-            parts,
-            root,
-        };
         let raw = Raw {
             dump: EMPTY,
-            layout,
+            layout: EMPTY_LAYOUT,
         };
         Heap {
             checked: Checked { raw },

@@ -1,11 +1,8 @@
 -- Each turn takes one repetition off the rest.
-use Rattle.sink.proofs.Owes.{owes_all, owes_put, owes_full, owes_none, owes_as}
+use Rattle.sink.proofs.Owes.{owes_put, owes_full, owes_none, owes_as}
 use Rattle.sink.proofs.Puts.{put_exit}
-use Rattle.sink_tests.proofs.Repeats.{repeat_start, repeat_next, repeat_end}
+use Rattle.sink_tests.proofs.Repeats.{repeat_next, repeat_end}
 use Rattle.sink_tests.proofs.repeat.Goals as goal
-
-pub loop-init : goal.loop-init
-loop-init g c = owes_as (repeat_start _ _) (owes_all _ _)
 
 pub loop-preserved : goal.loop-preserved
 loop-preserved g c = owes_put _ (owes_as (repeat_next _ _ _ c.loop-test.true) c.loop.invariant) c.in_ok-put_all.ensures

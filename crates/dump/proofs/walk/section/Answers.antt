@@ -6,9 +6,9 @@ pub returns-then-dump-p-lt4 : goal.returns-then-dump-p-lt4
 unfolding section_at
 returns-then-dump-p-lt4 c = search rules
 
-pub returns-then-limit-count : goal.returns-then-limit-count
+pub returns-then-bounds-count-clause-is : goal.returns-then-bounds-count-clause-is
 unfolding section_at
-returns-then-limit-count c = search rules
+returns-then-bounds-count-clause-is c = search rules
 
 pub returns-then-dump-p : goal.returns-then-dump-p
 unfolding section_at

@@ -1,11 +1,11 @@
-use Rattle.std.proofs.Common.{◌≡◌, ◌≤◌}
-use Rattle.dump.specs.Places.{units_of}
-use Rattle.numeral.specs.Digits.{are_digits, value_from}
-use Rattle.numeral.proofs.Runs.{rest}
+use Rattle.std.proofs.Common.{◌≡◌, ◌≤◌, drop, map}
+use Rattle.dump.specs.Texts.{little, text_units}
+use Rattle.numeral.specs.Digits.{number_within}
+use Rattle.numeral.proofs.Values.{within_from}
 use Rattle.numeral.proofs.digits.number_within.Given as goal
 
-abbrev pub invariant-loop-k : goal.invariant-loop-k
-invariant-loop-k l =
-    (l.value ≤ l.limit)
-    × (are_digits (rest l.dump l.run.start l.run.count l.k) ≡ are_digits (units_of l.dump l.run))
-    × (value_from l.value (rest l.dump l.run.start l.run.count l.k) ≡ value_from 0 (units_of l.dump l.run))
+abbrev pub invariant-loop-pair : goal.invariant-loop-pair
+invariant-loop-pair l = record {
+  small : l.value ≤ l.limit;
+  rest : within_from l.limit l.value (map little (drop l.pair-index l.text.units.now)) ≡ number_within l.limit (text_units l.text);
+}

@@ -1,6 +1,6 @@
 -- A row of the heap is that of its object.
 use Rattle.std.proofs.Common.{◌∙◌}
-use Rattle.heap_check.proofs.Held.{passed, an_object, kind_at_lem, row_at_lem}
+use Rattle.heap_check.proofs.Held.{an_object, kind_at_lem, row_at_lem}
 use Rattle.heap_check.proofs.checked.Checked.kind.Goals as goal
 
 pub row-requires : goal.row-requires
@@ -9,10 +9,7 @@ row-requires c = an_object c.args.self.now c.args.i c.requires
 pub kind_of-requires : goal.kind_of-requires
 kind_of-requires c =
     let row = row_at_lem c.args.self.now c.args.i c.requires c.row.result c.row.ensures in
-    record { sound = (passed c.args.self.now).texts; placed = row.numbers; known = row.known; within = row.within }
+    rw c.sound_texts.ensures (record { placed = row.numbers; known = row.known; within = row.within })
 
 pub returns : goal.returns
-returns c = record {
-  is = c.kind_of.ensures.is ∙ kind_at_lem c.args.self.now c.args.i c.requires c.row.result c.row.ensures;
-  fits = c.kind_of.ensures.fits;
-}
+returns c = rw (c.kind_of.ensures, c.sound_texts.ensures) (kind_at_lem c.args.self.now c.args.i c.requires c.row.result c.row.ensures)

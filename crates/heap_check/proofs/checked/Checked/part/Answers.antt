@@ -1,8 +1,7 @@
 -- A row of the heap is that of its object, and so are its parts.
-use Rattle.std.proofs.Common.{List, get_or, ap, ◌∙◌}
-use Rattle.dump.specs.Heaps.{Part}
-use Rattle.dump.specs.Heaps.{no_part}
-use Rattle.heap_check.proofs.Held.{passed, objects_are, an_object, parts_at, part_there}
+use Rattle.std.proofs.Common.{List, get_or, ap}
+use Rattle.dump.specs.Heaps.{Part, no_part}
+use Rattle.heap_check.proofs.Held.{objects_are, an_object, parts_at, part_there}
 use Rattle.heap_check.proofs.checked.Checked.part.Goals as goal
 
 pub row-requires : goal.row-requires
@@ -11,13 +10,12 @@ row-requires c = an_object c.args.self.now c.args.i c.requires.object
 pub part_of-requires : goal.part_of-requires
 part_of-requires c =
     let part = part_there c.args.self.now c.args.i c.requires.object c.row.result c.row.ensures c.args.k c.requires.part in
-    record { sound = (passed c.args.self.now).texts; below = part.under; on = part.on; placed = part.placed }
+    rw c.sound_texts.ensures (record { below = part.under; on = part.on; placed = part.placed })
 
-pub returns : goal.returns
-returns c = record {
-  is =
-      c.part_of.ensures.is
-      ∙ ap (λ (ps : List Part). get_or ps c.args.k no_part) (parts_at c.args.self.now c.args.i c.requires.object c.row.result c.row.ensures);
-  fits = c.part_of.ensures.fits;
-  there = rw objects_are c.part_of.ensures.there;
-}
+pub returns-clause-is : goal.returns-clause-is
+returns-clause-is c =
+    rw (c.part_of.ensures.is, c.sound_texts.ensures)
+    (ap (λ (ps : List Part). get_or ps c.args.k no_part) (parts_at c.args.self.now c.args.i c.requires.object c.row.result c.row.ensures))
+
+pub returns-clause-there : goal.returns-clause-there
+returns-clause-there c = rw (objects_are, ← c.sound_texts.ensures) c.part_of.ensures.there

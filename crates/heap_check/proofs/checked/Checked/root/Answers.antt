@@ -1,5 +1,4 @@
 -- The root names a text or an object that there is.
-use Rattle.std.proofs.Common.{rules}
 use Rattle.reads.proofs.Sound.{root_placed}
 use Rattle.heap_check.specs.Heaps.{dump_of}
 use Rattle.heap_check.proofs.Held.{passed, objects_are}
@@ -8,11 +7,7 @@ use Rattle.heap_check.proofs.checked.Checked.root.Goals as goal
 pub value_of-requires : goal.value_of-requires
 value_of-requires c =
     let h = c.args.self.now in
-    record { sound = (passed h).texts; placed = rw c.root.ensures (root_placed (dump_of h) h.raw.layout (passed h)) }
+    rw (c.sound_texts.ensures, c.root.ensures) (root_placed (dump_of h) h.raw.layout (passed h))
 
-pub returns : goal.returns
-returns c = record {
-  is = search rules;
-  fits = c.value_of.ensures.fits;
-  there = rw objects_are c.value_of.ensures.there;
-}
+pub returns-clause-there : goal.returns-clause-there
+returns-clause-there c = rw (objects_are, ← c.sound_texts.ensures) c.value_of.ensures.there
