@@ -53,6 +53,7 @@ fn root_word(found: &Checked<'_>) -> &'static str {
     }
 }
 
+// The words are this program's own, one for all kinds of views, so `Kind` does not print itself.
 fn kind_word(kind: Kind) -> &'static str {
     match kind {
         Kind::BooleanObject(_) => "Boolean",

@@ -54,6 +54,17 @@ module _ (f : ℕ → Verdict) where
 
 -- below n none passes
 module _ (p : ℕ → Bool) where
+  pub any_none : (i : ℕ) → any_below p i ≡ false → p i ≡ false → any_below p (i + 1) ≡ false
+  any_none i h e = rw (add-one, h) e
+
+  pub any_found : (i n : ℕ) → any_below p i ≡ false → p i ≡ true → i < n → any_below p n ≡ true
+  any_found i zero h r l = absurd (omega arith)
+  any_found i (suc n) h r l =
+      ⊎_elim
+      (λ (same : i ≡ n). rw (← same, h) r)
+      (λ (apart : i ≡ n → ⊥). rw (any_found i n h r (omega arith)) refl)
+      (cases_eq i n)
+
   pub none_passes : (n k : ℕ) → any_below p n ≡ false → k < n → p k ≡ false
   none_passes zero k h l = absurd (omega arith)
   none_passes (suc n) k h l =

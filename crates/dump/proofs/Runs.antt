@@ -1,8 +1,8 @@
 -- Runs of bytes, and lists of them.
-use Rattle.std.proofs.Common.{◌≡◌, ℕ, zero, suc, ◌+◌, ◌*◌, ◌<◌, true, ltb, List, [], ◌∷◌, length, get_or, refl, ap, ◌∙◌, arith}
+use Rattle.std.proofs.Common.{◌≡◌, ℕ, zero, suc, ◌+◌, ◌<◌, true, ltb, List, [], ◌∷◌, length, get_or, refl, ap, arith}
 use lib.Pow.{are_bytes}
 use Rattle.std.proofs.lemmas.Bool.{and_parts, and_from, lt-ltb, ltb-true}
-use Rattle.dump.specs.Bytes.{unit, units_at, bytes_at}
+use Rattle.dump.specs.Bytes.{bytes_at}
 
 pub length-bytes : (b : List ℕ) (p n : ℕ) → length (bytes_at b p n) ≡ n
 length-bytes b p zero = refl

@@ -1,9 +1,9 @@
 -- The pairs of bytes of a run, as units.
-use Rattle.std.proofs.Common.{◌≡◌, ℕ, zero, suc, ◌+◌, ◌-◌, ◌*◌, ◌/◌, ◌≤◌, List, [], ◌∷◌, length, take, drop, map, get_or, refl, ap, ◌∙◌, arith, rules}
+use Rattle.std.proofs.Common.{◌≡◌, ℕ, zero, suc, ◌+◌, ◌-◌, ◌*◌, ◌/◌, ◌≤◌, List, length, take, drop, map, get_or, refl, ap, ◌∙◌, arith}
 use Rattle.std.specs.Simd.{first_chunks}
 use Rattle.std.proofs.lemmas.List.{drop-take, drop-drop, get_or-take, get_or-drop, length-take, length-drop}
 use Rattle.dump.specs.Bytes.{unit, units_at}
-use Rattle.dump.specs.Texts.{little}
+use Rattle.dump.specs.Bytes.{little}
 
 pub first_pair : (m p : ℕ) (b : List ℕ) → little (take 2 (take (2 + m) (drop p b))) ≡ unit b p
 unfolding unit

@@ -18,3 +18,7 @@ units_at b p (suc n) = unit b p ∷ units_at b (p + 2) n
 abbrev pub bytes_at : List ℕ → ℕ → ℕ → List ℕ
 bytes_at b p zero = []
 bytes_at b p (suc n) = slice_index b p ∷ bytes_at b (p + 1) n
+
+-- the unit that two bytes are, low byte first
+abbrev pub little : List ℕ → ℕ
+little pair = slice_index pair 0 + slice_index pair 1 * 256

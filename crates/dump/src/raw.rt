@@ -5,6 +5,8 @@ use super::layout::Layout;
 
 mod reads;
 
+// The limits are those of the walk, said of each section by itself: sections of sizes and limits as parameters of their
+// type would be seven types in place of one.
 #[derive(Clone, Copy)]
 pub struct Raw<'a> {
     pub dump: &'a [u8],

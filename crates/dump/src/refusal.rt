@@ -67,11 +67,25 @@ impl Refusal {
             record: i as u32,
         }
     }
+
+    // The number of the rule.
+    pub fn number(self) -> u8
+        ensures { result ≡ self.number }
+    {
+        self.rule as u8
+    }
+
+    // The number of the section, 0 for the dump as a whole.
+    pub fn section(self) -> u8
+        ensures { result ≡ self.section }
+    {
+        self.site as u8
+    }
 }
 
-// The numbers of the rule, the section and the record.
+// The numbers of the rule, the section and the record: what is printed no contract says.
 impl fmt::Display for Refusal {
     fn fmt<W: fmt::Write>(&self, f: &mut fmt::Formatter<W>) -> fmt::Result {
-        write!(f, "{} {} {}", self.rule as u8, self.site as u8, self.record)
+        write!(f, "{} {} {}", self.number(), self.section(), self.record)
     }
 }

@@ -1,5 +1,8 @@
 // The records of the sections of objects, parts and the root, as words.
 
+// Words as they stand in the dump, so a tag or a kind may be unknown, and only the kind says what the others
+// mean: names for them would be those of one kind.
+
 // A value: what it is, and two words of content.
 #[derive(Clone, Copy, Debug, PartialEq, Eq)]
 pub struct Cell {
@@ -20,6 +23,7 @@ pub struct Row {
 }
 
 // A run of units: the byte where it begins, and how many units it has. It may leave the dump: one that lies in it is a `Text`.
+// A section counts records of any size, and a run of parts counts parts: one type for all would mix them up.
 #[derive(Clone, Copy)]
 pub struct Run {
     pub start: usize,

@@ -1,10 +1,20 @@
 // A text in a dump: its units, each of two bytes, the low one first.
+ghost use Rattle.std.specs.Prelude.{◌≡◌};
+ghost use Rattle.dump.specs.Bytes.{little};
+
 use super::row::Run;
 
 // The units lie in the dump: a run that leaves it is no text.
 #[derive(Clone, Copy)]
 pub struct Text<'a> {
     pub units: &'a [[u8; 2]],
+}
+
+// The unit that two bytes are.
+pub fn unit(pair: &[u8; 2]) -> u16
+    ensures { result ≡ little pair.now }
+{
+    u16::from_le_bytes(*pair)
 }
 
 impl<'a> Text<'a> {
@@ -31,6 +41,6 @@ impl<'a> Text<'a> {
         requires { k < length (text_units self) }
         ensures { result ≡ slice_index (text_units self.entry) k }
     {
-        u16::from_le_bytes(self.units[k])
+        unit(&self.units[k])
     }
 }

@@ -1,7 +1,6 @@
 -- What is checked is what an accepted dump means, and well formed.
 use Rattle.std.proofs.Common.{◌≡◌, ℕ, true, List, is_ok, Ok, Err, Result, sym, refl, ap, ◌∙◌, arith}
 use Rattle.dump.specs.declared.refusal.Refusal.{Refusal}
-use Rattle.dump.specs.declared.layout.Layout.{Layout}
 use Rattle.dump.specs.Heaps.{Heap as Meant}
 use Rattle.rules.specs.Verdicts.{verdict}
 use Rattle.formed.specs.Formed.{Formed}

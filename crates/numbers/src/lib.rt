@@ -10,7 +10,7 @@ pub mod fault;
 
 use fault::NumberFault;
 
-// The scratch holds any numeral, so a speller's only refusal is that there is none.
+// The scratch is lent, since there is no heap. It holds any numeral, so a speller's only refusal is that there is none.
 pub fn put_number<S: Speller, K: Sink>(
     speller: &S,
     bits: u64,

@@ -5,7 +5,7 @@ use Rattle.std.proofs.lemmas.Bool.{lt-ltb, ltb-false}
 use Rattle.std.proofs.lemmas.Bool.Decides.{nat_tests}
 use Rattle.std.proofs.lemmas.List.{take_all, take-map, drop-map, length-drop}
 use Rattle.std.specs.Option.{option_map, option_map_or}
-use Rattle.dump.specs.Texts.{little}
+use Rattle.dump.specs.Bytes.{little}
 use Rattle.numeral.specs.Numerals.{before_point, after_point}
 
 front : (t : List ℕ) → before_point t ≡ before_first (λ c. eqb c 46) t

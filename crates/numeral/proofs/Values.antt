@@ -3,7 +3,7 @@ use Rattle.std.proofs.Common.{◌≡◌, ℕ, ◌+◌, ◌-◌, ◌*◌, ◌<◌
 use Rattle.std.specs.List.{list_all}
 use Rattle.std.proofs.lemmas.Bool.Decides.{nat_tests}
 use Rattle.std.proofs.lemmas.List.{at_drop_more}
-use Rattle.dump.specs.Texts.{little}
+use Rattle.dump.specs.Bytes.{little}
 use Rattle.numeral.specs.Digits.{is_digit, are_digits, value_from, whole_within}
 
 pub are_digits_lem : (cs : List ℕ) → are_digits cs ≡ list_all is_digit cs

@@ -3,8 +3,7 @@ ghost use Rattle.std.specs.Prelude.{◌≡◌, ◌^◌, ◌<◌, is_some};
 ghost use Rattle.dump.specs.Texts.{text_units};
 ghost use Rattle.numeral.specs.Digits.{is_digit, are_digits, some_digits, first_is, number_within, is_zero, positive_digits, whole_digits, whole_within, index_of};
 
-use super::units::unit;
-use dump::text::Text;
+use dump::text::{Text, unit};
 
 const ZERO: u16 = 48;
 

@@ -4,4 +4,3 @@
 pub mod digits;
 pub mod numerals;
 pub mod texts;
-mod units;

@@ -5,8 +5,7 @@ ghost use Rattle.dump.specs.Texts.{text_units};
 ghost use Rattle.numeral.specs.Numerals.{body as body_of, before_point, after_point, is_numeral, is_big_int, whole_of, whole_bits, finite as is_finite, is_double, minus, is_pair};
 
 use super::digits::{first_is, is_zero, positive_digits, some_digits, whole_digits, whole_within};
-use super::units::unit;
-use dump::text::Text;
+use dump::text::{Text, unit};
 use std::num::f64_to_bits_with_nan;
 
 const MINUS: u16 = 45;
@@ -91,7 +90,7 @@ fn finite(bits: u64) -> bool
     bits / 0x10_0000_0000_0000 % 2048 != 2047
 }
 
-// The bits are those of the double that is `n`, or minus `n`; up to here each whole number is a double.
+// The bits are those of the double that is `n`, or minus `n`, which is no integer where `n` is 0. Up to here each whole number is a double.
 fn is_whole(negative: bool, n: u64, bits: u64) -> bool
     requires { n ≤ 9007199254740991 }
     ensures { result ≡ (bits == whole_bits negative n) }

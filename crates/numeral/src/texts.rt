@@ -5,10 +5,9 @@ ghost use Rattle.dump.specs.Texts.{text_units};
 ghost use Rattle.numeral.specs.Words.{same_units};
 ghost use Rattle.numeral.specs.Order.{before as is_before};
 
-use super::units::unit;
-use dump::text::Text;
+use dump::text::{Text, unit};
 
-// The units of the text are the bytes of `word`. Lengths first, so that of most texts no unit is looked at, as `eq` of iterators would.
+// The units of the text are the bytes of `word`. By the lengths first, so that of most texts no unit is looked at: `eq` of iterators would look.
 #[tactic(auto, using(crate::proofs::Orders::same_zip))]
 pub fn is_word(text: Text<'_>, word: &[u8]) -> bool
     ensures { result ≡ same_units (text_units text.entry) word.now }

@@ -1,6 +1,6 @@
 -- What the rows of a dump that passed say of each row: the texts, objects, parts and bytes that it names are there.
-use Rattle.std.proofs.Common.{◌≡◌, ℕ, ◌+◌, ◌-◌, ◌<◌, ◌≤◌, Bool, true, cond, eqb, ◌⊎◌, List, is_ok, refl, ⊎_elim, arith}
-use Rattle.std.proofs.lemmas.Bool.{and_parts, both_ways, cases_eq, ltb-true, ne_eqb}
+use Rattle.std.proofs.Common.{◌≡◌, ℕ, ◌+◌, ◌-◌, ◌<◌, ◌≤◌, true, ◌⊎◌, List, is_ok, ⊎_elim, arith}
+use Rattle.std.proofs.lemmas.Bool.{and_parts, ltb-true}
 use Rattle.std.proofs.lemmas.Bool.Decides.{nat_tests}
 use Rattle.dump.specs.declared.layout.Layout.{Layout}
 use Rattle.dump.specs.declared.row.Row.{Row}
@@ -44,28 +44,9 @@ pub numeral_placed : (b : List ℕ) (l : Layout) (i : ℕ) → Sections b l → 
 numeral_placed b l i s g =
     ltb-true (numeral_text b l i) l.texts.count (judge_holds 3 i (numeral_rules b l i) (row_passes (numeral_row b l) l.numerals.count i s.numerals g)).0
 
--- a test that goes by the cases of a number holds at one of them
-one_of : (x n most : ℕ) (here later : Bool) → n ≤ most → (later ≡ true → x ≤ most) → cond (eqb x n) here later ≡ true → x ≤ most
-one_of x n most here later fits h e =
-    ⊎_elim (λ (same : x ≡ n). omega arith) (λ (apart : x ≡ n → ⊥). h (rw ne_eqb at e)) (cases_eq x n)
-
+-- a row of a kind that there is
 known_kind : (r : Row) → words_ok r ≡ true → r.kind ≤ 13
-known_kind r =
-    one_of r.kind 0 13 _ _ (omega arith)
-    (one_of r.kind 1 13 _ _ (omega arith)
-    (one_of r.kind 2 13 _ _ (omega arith)
-    (one_of r.kind 3 13 _ _ (omega arith)
-    (one_of r.kind 4 13 _ _ (omega arith)
-    (one_of r.kind 5 13 _ _ (omega arith)
-    (one_of r.kind 6 13 _ _ (omega arith)
-    (one_of r.kind 7 13 _ _ (omega arith)
-    (one_of r.kind 8 13 _ _ (omega arith)
-    (one_of r.kind 9 13 _ _ (omega arith)
-    (one_of r.kind 10 13 _ _ (omega arith)
-    (one_of r.kind 11 13 _ _ (omega arith)
-    (one_of r.kind 12 13 _ _ (omega arith)
-    (one_of r.kind 13 13 _ _ (omega arith)
-    (λ e. absurd (both_ways _ refl e)))))))))))))))
+known_kind r h = grind (arith, nat_tests)
 
 octets_within : (r : Row) (begin total : ℕ) → bytes_ok r begin total ≡ true → r.kind ≡ 11 → r.a + r.b ≤ total
 octets_within r begin total h e = grind (arith, nat_tests)

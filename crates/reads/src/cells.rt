@@ -11,7 +11,8 @@ use dump::kinds::Tag;
 use dump::row::Cell;
 use rules::texts::Texts;
 
-// The value that a cell holds.
+// The value that a cell holds. That an object in it is there is promised here and by what hands it on: a type for an
+// object's number would want the heap beside it.
 pub fn value_of<'a>(texts: &Texts<'a>, cell: Cell) -> Value<'a>
     requires { place_ok texts.now.raw.layout.texts.count texts.now.raw.layout.objects.count cell ≡ true }
     ensures is { value_in result ≡ value_of (bytes texts.now.raw) texts.now.raw.layout cell }

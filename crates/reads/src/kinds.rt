@@ -11,6 +11,7 @@ use dump::kinds::{ObjectKind, error_name, view_kind};
 use dump::row::Row;
 use dump::text::Text;
 use rules::texts::Texts;
+use shapes::object::{elements, most_bytes};
 
 // The text with a number counted from 1, none for 0.
 fn maybe_text<'a>(texts: &Texts<'a>, number: u32) -> Option<Text<'a>>
@@ -62,13 +63,13 @@ pub fn kind_of<'a>(texts: &Texts<'a>, row: Row) -> Kind<'a>
             let start = texts.raw.layout.octets.start + row.a as usize;
             Kind::Buffer {
                 octets: &texts.raw.dump[start..start + row.b as usize],
-                maximum: (row.c == 1).then_some(row.d),
+                maximum: most_bytes(row),
             }
         }
         ObjectKind::View => Kind::View {
             kind: view_kind(row.b),
             offset: row.c,
-            length: (row.e % 2 != 1).then_some(row.d),
+            length: elements(row),
         },
         ObjectKind::Error => Kind::Error {
             name: error_name(row.a),

@@ -3,7 +3,7 @@ use super::value::{Key, Value};
 use dump::kinds::{ErrorName, ViewKind};
 use dump::text::Text;
 
-// The flags of a regular expression are bits, and a date is its milliseconds, none if invalid.
+// The flags of a regular expression are bits, as in the definition of a heap, and a date is its milliseconds, none if invalid.
 // A dense array's parts are its elements, then its properties; a view with no length tracks its buffer's.
 #[derive(Clone, Copy)]
 pub enum Kind<'a> {

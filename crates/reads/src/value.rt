@@ -1,7 +1,9 @@
 // A value and a key, whose texts are read in place.
 use dump::text::Text;
 
-// A whole number has 32 bits, signed or not; a double is its 64 bits; a hole is a missing element.
+// A whole number has 32 bits, signed or not; a double is its 64 bits; an object is its number in the dump,
+// whose rows stand for an arena. A hole is a missing element: an `Option` in the one kind of part that may
+// have it would say in two types what the definition of a heap says in one.
 #[derive(Clone, Copy)]
 pub enum Value<'a> {
     Undefined,

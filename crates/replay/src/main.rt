@@ -21,8 +21,8 @@ struct Told {
 impl From<Refusal> for Told {
     fn from(no: Refusal) -> Told {
         Told {
-            number: no.rule as u8,
-            section: no.site as u8,
+            number: no.number(),
+            section: no.section(),
             record: no.record,
         }
     }

@@ -1,3 +1,4 @@
+pub mod Judging
 pub mod Texts
 pub mod Cells
 pub mod Objects

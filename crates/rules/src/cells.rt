@@ -10,7 +10,7 @@ use dump::refusal::{Refusal, Rule, Site};
 use dump::row::Cell;
 use shapes::cell::{place_ok, tag_ok};
 
-impl Marks<'_> {
+impl Marks<'_, '_> {
     // A BigInt has the text of one.
     pub fn bigint_ok(&self, cell: Cell) -> bool
         requires { place_ok self.now.raw.layout.texts.count self.now.raw.layout.objects.count cell ≡ true }
@@ -19,6 +19,7 @@ impl Marks<'_> {
         Tag::try_from(cell.tag) != Ok(Tag::BigInt) || self.flags[cell.low as usize]
     }
 
+    // By its rules in their order, as a row of parts.
     pub fn root_row(&self) -> Result<(), Refusal>
         ensures { result ≡ root_row (bytes self.now.raw) self.now.raw.layout }
     {

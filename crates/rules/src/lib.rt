@@ -2,6 +2,7 @@
 #![tactic(auto)]
 
 pub mod cells;
+mod each;
 pub mod marks;
 pub mod objects;
 mod part;

@@ -14,8 +14,9 @@ use shapes::object::{
     buffers_ok, bytes_in, bytes_ok, limits_ok, numbers_ok, parts_in, runs_ok, words_ok,
 };
 
-impl Marks<'_> {
-    // A BigInt object has the text of one.
+impl Marks<'_, '_> {
+    // A row whose numbers are in range is asked for here, below and by `kind_of`: a type for it would be made for one
+    // call each. A BigInt object has the text of one. A row has a kind where a cell has a tag, so this is no `bigint_ok`.
     fn bigint_row(&self, row: Row) -> bool
         requires { numbers_ok self.now.raw.layout.texts.count self.now.raw.layout.objects.count row ≡ true }
         ensures { result ≡ bigint_row (bytes self.now.raw) self.now.raw.layout row }
@@ -66,6 +67,8 @@ impl Marks<'_> {
         Ok(())
     }
 
+    // A `for`: two sums go along from row to row, each with its bound, which `each` does not carry and a `try_fold`
+    // would carry as a pair.
     pub fn object_rows(&self) -> Result<(), Refusal>
         ensures { result ≡ object_rows (bytes self.now.raw) self.now.raw.layout }
     {
@@ -89,7 +92,8 @@ pub struct Objects<'a> {
 }
 
 impl Objects<'_> {
-    // How many parts all rows have.
+    // How many parts all rows have. It and the next differ in the summand: one function for both would want the bound
+    // of the sum for any closure, as a clause.
     pub fn all_parts(&self) -> usize
         ensures is { result ≡ parts_below (bytes self.now.raw) self.now.raw.layout self.now.raw.layout.objects.count }
         ensures within { result ≤ self.now.raw.layout.parts.count }

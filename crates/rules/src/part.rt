@@ -14,13 +14,14 @@ use numeral::digits::is_index;
 use numeral::texts::is_word;
 use shapes::cell::{minus_zero, same_zero};
 
-// The part `k` of a run of parts.
+// The part `k` of a run of parts. A text that is its key is there.
 #[derive(Clone, Copy)]
 pub(crate) struct Part<'t, 'a> {
     pub texts: &'t Texts<'a>,
     pub run: PartRun,
     pub k: usize,
     ghost here: { run.first + k < texts.now.raw.layout.parts.count },
+    ghost named: { (key_at (bytes texts.now.raw) texts.now.raw.layout (run.first + k)).tag ≡ 7 → (key_at (bytes texts.now.raw) texts.now.raw.layout (run.first + k)).low < texts.now.raw.layout.texts.count },
 }
 
 impl Part<'_, '_> {
@@ -32,16 +33,10 @@ impl Part<'_, '_> {
         self.texts.raw.key(self.run.first + k)
     }
 
-    pub(crate) fn key(&self) -> Cell
+    fn key(&self) -> Cell
         ensures { result ≡ key_at (bytes self.now.texts.now.raw) self.now.texts.now.raw.layout (self.now.run.first + self.now.k) }
     {
         self.key_of(self.k)
-    }
-
-    pub(crate) fn value(&self) -> Cell
-        ensures { result ≡ value_at (bytes self.now.texts.now.raw) self.now.texts.now.raw.layout (self.now.run.first + self.now.k) }
-    {
-        self.texts.raw.value(self.run.first + self.k)
     }
 
     // The key of the part `k` of the run is the text with this number.
@@ -53,7 +48,7 @@ impl Part<'_, '_> {
         Tag::try_from(key.tag) == Ok(Tag::Text) && key.low == text
     }
 
-    // The text is the key of a part before this one.
+    // The text is the key of a part before this one: with no heap there is no table of keys.
     fn named_before(&self, text: u32) -> bool
         ensures { result ≡ any_below (λ j. named_by (bytes self.now.texts.now.raw) self.now.texts.now.raw.layout text (self.now.run.first + j)) self.now.k }
     {
@@ -66,6 +61,7 @@ impl Part<'_, '_> {
         ensures { result ≡ is_reserved (bytes self.now.texts.now.raw) self.now.texts.now.raw.layout text }
     {
         let text = self.texts.text(text as usize);
+        // Units are compared with bytes, which `b".."` gives as they are.
         is_word(text, b"length") || is_word(text, b"__proto__")
     }
 
@@ -89,7 +85,7 @@ impl Part<'_, '_> {
     }
 
     fn name_ok(&self, array: bool) -> bool
-        requires { (key_at (bytes self.now.texts.now.raw) self.now.texts.now.raw.layout (self.now.run.first + self.now.k)).low < self.now.texts.now.raw.layout.texts.count }
+        requires { (key_at (bytes self.now.texts.now.raw) self.now.texts.now.raw.layout (self.now.run.first + self.now.k)).tag ≡ 7 }
         ensures { result ≡ name_ok (bytes self.now.texts.now.raw) self.now.texts.now.raw.layout array self.now.run.first self.now.k }
     {
         let text = self.key().low;
@@ -103,7 +99,6 @@ impl Part<'_, '_> {
     }
 
     fn property_ok(&self, array: Option<u32>) -> bool
-        requires { (key_at (bytes self.now.texts.now.raw) self.now.texts.now.raw.layout (self.now.run.first + self.now.k)).tag ≡ 7 → (key_at (bytes self.now.texts.now.raw) self.now.texts.now.raw.layout (self.now.run.first + self.now.k)).low < self.now.texts.now.raw.layout.texts.count }
         ensures { result ≡ property_ok (bytes self.now.texts.now.raw) self.now.texts.now.raw.layout (limit_of array) (is_some array) self.now.run.first self.now.k }
     {
         match Tag::try_from(self.key().tag) {
@@ -114,7 +109,6 @@ impl Part<'_, '_> {
     }
 
     pub(crate) fn key_ok(&self) -> bool
-        requires { (key_at (bytes self.now.texts.now.raw) self.now.texts.now.raw.layout (self.now.run.first + self.now.k)).tag ≡ 7 → (key_at (bytes self.now.texts.now.raw) self.now.texts.now.raw.layout (self.now.run.first + self.now.k)).low < self.now.texts.now.raw.layout.texts.count }
         ensures { result ≡ key_ok (bytes self.now.texts.now.raw) self.now.texts.now.raw.layout self.now.run.role self.now.run.first self.now.k }
     {
         match self.run.role {
@@ -126,30 +120,27 @@ impl Part<'_, '_> {
         }
     }
 
-    // What tells the entries of a Map, or the members of a Set, apart.
-    fn identity(&self, k: usize) -> Cell
-        requires { k ≤ self.now.k }
-        ensures { result ≡ identity_of (bytes self.now.texts.now.raw) self.now.texts.now.raw.layout self.now.run.role (self.now.run.first + k) }
-    {
-        match self.run.role {
-            Role::Property { .. } | Role::Entry => self.key_of(k),
-            Role::Element | Role::Member | Role::Cause | Role::Loose => {
-                self.texts.raw.value(self.run.first + k)
-            }
-        }
-    }
-
-    // A part before this one is the same as `cell`.
+    // A part before this one is the same as `cell`. A `for`: by `any` a Map of 8,192 texts takes 33 ms, and not 23.
     fn same_before(&self, cell: Cell) -> bool
         ensures { result ≡ any_below (λ j. same_zero cell (identity_of (bytes self.now.texts.now.raw) self.now.texts.now.raw.layout self.now.run.role (self.now.run.first + j))) self.now.k }
     {
-        (0..self.k).any(|j| same_zero(cell, self.identity(j)))
+        let raw = &self.texts.raw;
+        let PartRun { role, first, .. } = self.run;
+        for j in 0..self.k {
+            if same_zero(cell, role.identity(raw, first + j)) {
+                return true;
+            }
+        }
+        false
     }
 
     fn apart(&self) -> bool
         ensures { result ≡ is_apart (bytes self.now.texts.now.raw) self.now.texts.now.raw.layout self.now.run.role self.now.run.first self.now.k }
     {
-        let cell = self.identity(self.k);
+        let cell = self
+            .run
+            .role
+            .identity(&self.texts.raw, self.run.first + self.k);
         !minus_zero(cell) && !self.same_before(cell)
     }
 

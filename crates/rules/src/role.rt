@@ -1,11 +1,13 @@
 // What a part is to its object, and the runs of parts that a row has.
-ghost use Rattle.std.specs.Prelude.{◌≡◌};
-ghost use Rattle.rules.specs.Parts.{first_run, second_run, may_be_hole};
+ghost use Rattle.std.specs.Prelude.{◌≡◌, ◌<◌};
+ghost use Rattle.dump.specs.Raws.{bytes};
+ghost use Rattle.rules.specs.Parts.{first_run, second_run, may_be_hole, identity as identity_of};
 
 use dump::kinds::ObjectKind;
-use dump::row::Row;
+use dump::raw::Raw;
+use dump::row::{Cell, Row};
 
-// A property of an array has the array's length: its index keys are below it, and arrays' own keys are refused.
+// The index keys of an array's properties are below `array`, and arrays' own keys are refused.
 // A part of no object is loose.
 #[derive(Clone, Copy)]
 pub enum Role {
@@ -72,7 +74,8 @@ pub(crate) fn first_run(row: Row) -> PartRun
     }
 }
 
-// The properties of a dense array, which has no index keys beside its elements.
+// The properties of a dense array, which has no index keys beside its elements. Both runs at once, as an array,
+// would be no plainer: the second is that of one kind.
 pub(crate) fn second_run(row: Row) -> PartRun
     ensures { result ≡ second_run row }
 {
@@ -85,6 +88,17 @@ pub(crate) fn second_run(row: Row) -> PartRun
 }
 
 impl Role {
+    // What tells the entries of a Map, or the members of a Set, apart.
+    pub(crate) fn identity(self, raw: &Raw<'_>, p: usize) -> Cell
+        requires { p < raw.now.layout.parts.count }
+        ensures { result ≡ identity_of (bytes raw.now) raw.now.layout self p }
+    {
+        match self {
+            Role::Property { .. } | Role::Entry => raw.key(p),
+            Role::Element | Role::Member | Role::Cause | Role::Loose => raw.value(p),
+        }
+    }
+
     pub(crate) fn may_be_hole(self) -> bool
         ensures { result ≡ may_be_hole self }
     {

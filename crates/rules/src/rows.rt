@@ -4,6 +4,7 @@ ghost use Rattle.dump.specs.Raws.{bytes};
 ghost use Rattle.dump.specs.Refusals.{site_number};
 ghost use Rattle.rules.specs.Verdicts.{all_used, rows_of};
 
+use super::marks::Marks;
 use super::objects::Objects;
 use super::parts::Parts;
 use super::texts::{Texts, text_rows};
@@ -27,10 +28,15 @@ pub fn rows(raw: &Raw<'_>) -> Result<(), Refusal>
     text_rows(raw)?;
     let texts = Texts { raw: *raw };
     texts.numeral_rows()?;
-    let marks = texts.marks();
+    let mut flags = [false; 8192];
+    texts.mark(&mut flags);
+    let marks = Marks {
+        raw: *raw,
+        flags: &flags,
+    };
     marks.object_rows()?;
     let objects = Objects { raw: *raw };
-    let parts = Parts { marks: &marks };
+    let parts = Parts { marks };
     parts.part_rows()?;
     let used = objects.all_parts();
     parts.loose_parts(used)?;

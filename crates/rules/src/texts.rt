@@ -3,16 +3,18 @@ ghost use Rattle.std.specs.Prelude.{◌≡◌, ℕ, ◌+◌, ◌*◌, ◌<◌, �
 ghost use Rattle.dump.specs.Rules.{any_below};
 ghost use Rattle.dump.specs.Raws.{bytes};
 ghost use Rattle.dump.specs.Texts.{text_units};
-ghost use Rattle.dump.specs.Places.{text_of};
-ghost use Rattle.rules.specs.Texts.{text_row, text_rows, same_numeral, numeral_row, numeral_rows, TextsSound};
+ghost use Rattle.dump.specs.Places.{text_of, text_run};
+ghost use Rattle.rules.specs.Texts.{text_row, text_rows, same_numeral, numeral_row, numeral_rows, TextsSound, Marked};
 
-use super::marks::Marks;
+use super::each::each;
 use dump::raw::Raw;
 use dump::refusal::{Refusal, Rule, Site};
+use dump::row::Run;
 use dump::text::Text;
 use numeral::numerals::{is_bigint, is_pair};
 use numeral::texts::before;
 
+// Its rules in their order, here and of other rows: in a list each would be a `&dyn Fn`, and no plainer.
 fn text_row(raw: &Raw<'_>, i: usize) -> Result<(), Refusal>
     requires { i < raw.now.layout.texts.count }
     ensures { result ≡ text_row (bytes raw.now) raw.now.layout i }
@@ -36,10 +38,7 @@ fn text_row(raw: &Raw<'_>, i: usize) -> Result<(), Refusal>
 pub fn text_rows(raw: &Raw<'_>) -> Result<(), Refusal>
     ensures { result ≡ text_rows (bytes raw.now) raw.now.layout }
 {
-    for i in 0..raw.layout.texts.count {
-        text_row(raw, i)?;
-    }
-    Ok(())
+    each(raw.layout.texts.count, |i| text_row(raw, i))
 }
 
 // A dump whose text rows keep their rules.
@@ -50,12 +49,21 @@ pub struct Texts<'a> {
 }
 
 impl<'a> Texts<'a> {
-    // The units of a text, which lie in the dump.
+    // Where the units of a text stand, which lie in the dump.
+    pub fn run(&self, i: usize) -> Run
+        requires { i < self.now.raw.layout.texts.count }
+        ensures is { result ≡ text_run (bytes self.now.raw) self.now.raw.layout i }
+        ensures fits { result.start + result.count * 2 ≤ length (bytes self.now.raw) }
+    {
+        self.raw.text(i)
+    }
+
+    // The units of a text.
     pub fn text(&self, i: usize) -> Text<'a>
         requires { i < self.now.raw.layout.texts.count }
         ensures { text_units result ≡ text_of (bytes self.now.raw) self.now.raw.layout i }
     {
-        Text::new(self.raw.dump, self.raw.text(i))
+        Text::new(self.raw.dump, self.run(i))
     }
 
     // The numeral rows `i` and `k` have one text or one double.
@@ -67,6 +75,8 @@ impl<'a> Texts<'a> {
         raw.numeral_text(i) == raw.numeral_text(k) || raw.numeral_bits(i) == raw.numeral_bits(k)
     }
 
+    // With no heap there is no table of the rows that came before, so they are gone over, as keys are.
+    #[inline(never)]
     fn repeated(&self, i: usize) -> bool
         requires { i < self.now.raw.layout.numerals.count }
         ensures { result ≡ any_below (same_numeral (bytes self.now.raw) self.now.raw.layout i) i }
@@ -91,23 +101,15 @@ impl<'a> Texts<'a> {
     pub fn numeral_rows(&self) -> Result<(), Refusal>
         ensures { result ≡ numeral_rows (bytes self.now.raw) self.now.raw.layout }
     {
-        for i in 0..self.raw.layout.numerals.count {
-            self.numeral_row(i)?;
-        }
-        Ok(())
+        each(self.raw.layout.numerals.count, |i| self.numeral_row(i))
     }
 
-    // Which texts are those of BigInts: each is read for it only here.
-    pub fn marks(&self) -> Marks<'a>
-        ensures { result.raw ≡ self.now.raw }
+    // Tells of each text whether it is that of a BigInt.
+    pub fn mark(&self, flags: &mut [bool; 8192])
+        ensures { Marked self.now.raw flags.new }
     {
-        let mut flags = [false; 8192];
-        for i in 0..self.raw.layout.texts.count {
-            flags[i] = is_bigint(self.text(i));
-        }
-        Marks {
-            raw: self.raw,
-            flags,
+        for (i, flag) in flags[..self.raw.layout.texts.count].iter_mut().enumerate() {
+            *flag = is_bigint(self.text(i));
         }
     }
 }

@@ -38,7 +38,7 @@ pub fn words_ok(row: Row) -> bool
     }
 }
 
-// Texts and objects that there are.
+// Texts and objects that there are. A cell's rule has the same two limits, but other words and other cases.
 pub fn numbers_ok(row: Row, texts: usize, objects: usize) -> bool
     ensures { result ≡ numbers_ok texts objects row }
 {
@@ -84,6 +84,7 @@ fn run_ok(first: u32, count: u32, begin: usize, total: usize) -> bool
     first as usize == begin && begin + count as usize <= total
 }
 
+// `begin` and `total` are limits for this one row, and change from call to call, so they are no type.
 // The runs of parts begin at `begin`, one behind the other, and end within `total`.
 pub fn runs_ok(row: Row, begin: usize, total: usize) -> bool
     requires { (begin ≤ total) × (total ≤ 65536) }
@@ -150,14 +151,14 @@ pub fn limits_ok(row: Row) -> bool
 }
 
 // The most bytes that a resizable buffer may have; none if it has one size.
-fn most_bytes(buffer: Row) -> Option<u32>
+pub fn most_bytes(buffer: Row) -> Option<u32>
     ensures { result ≡ cond (buffer.c == 1) (Some buffer.d) None }
 {
     (buffer.c == 1).then_some(buffer.d)
 }
 
 // How many elements a view has; none if it tracks its buffer's length.
-fn elements(view: Row) -> Option<u32>
+pub fn elements(view: Row) -> Option<u32>
     ensures { result ≡ cond (tracking view) None (Some view.d) }
 {
     (view.e % 2 == 0).then_some(view.d)

@@ -1,4 +1,5 @@
-// A tally hands each byte on to a lent sink, and counts those that it took.
+// A tally hands each byte on to a lent sink, and counts those that it took. It holds no `Counter`: that would have a
+// space of its own beside the sink's.
 ghost use Rattle.std.specs.Prelude.{◌≡◌};
 
 use super::fault::SinkFault;

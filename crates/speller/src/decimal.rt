@@ -3,7 +3,8 @@ ghost use Rattle.std.specs.Prelude.{◌≡◌, ◌+◌, ◌≤◌, ◌++◌, len
 
 use itoa::Buffer;
 
-// Writes `n` from `start` on, and tells where it ends.
+// Writes `n` from `start` on, and tells where it ends. As a buffer of its own the rest would be the caller's to put
+// together again in its clause.
 pub(crate) fn put_decimal(n: u64, start: usize, buffer: &mut [u8]) -> usize
     requires { start + length (digits_of n) ≤ length buffer.old }
     ensures end { result ≡ start + length (digits_of n) }

@@ -66,9 +66,6 @@ pub fn numeral_of<S: Speller>(
 ) -> Option<usize>
     ensures { Found (S.Speller.means speller.now bits) scratch.old result scratch.new }
 {
-    match speller.spell(bits, scratch) {
-        Ok(n) => Some(n),
-        Err(SpellFault::Unspelled) => None,
-        Err(SpellFault::Short) => unreachable(),
-    }
+    // The scratch is too short for no numeral, so the one refusal is that there is none.
+    speller.spell(bits, scratch).ok()
 }

@@ -10,7 +10,7 @@ use super::spelling::Speller;
 use numeral::numerals::{LAST_WHOLE, SIGN};
 use std::num::{f64_from_bits_with_nan, saturating_f64_to_u64};
 
-// The last whole number before 2^53: up to here each is a double, and no two are one.
+// Which whole numbers are spelled.
 const LIMIT: u64 = LAST_WHOLE;
 
 // Spells every whole number below 2^53 in size, and minus zero as `-0`.
@@ -37,7 +37,7 @@ fn size_of(bits: u64) -> Option<u64>
     }
 }
 
-// Writes the number to the front, and tells how long it is.
+// Writes the number to the front, and tells how long it is. The sign is apart: `-0` is no integer.
 #[tactic(auto, using(crate::specs::Decimals::decimal_short))]
 fn put_whole(negative: bool, n: u64, buffer: &mut [u8]) -> usize
     requires { (n ≤ 9007199254740991) × (17 ≤ length buffer.old) }

@@ -1,7 +1,6 @@
 -- Copying a numeral to the front of a buffer.
-use Rattle.std.proofs.Common.{◌≡◌, ℕ, ◌+◌, ◌<◌, ◌≤◌, true, List, ◌++◌, length, get_or, drop, set, sym, ap, ◌∙◌, subst, zero-add, arith}
-use lib.Seq.{paste}
-use Rattle.std.proofs.lemmas.List.Edits.{paste_more, paste_all}
+use Rattle.std.proofs.Common.{◌≡◌, ℕ, ◌<◌, ◌≤◌, true, List, length, get_or, take, sym, ap, ◌∙◌, subst, arith}
+use Rattle.std.proofs.lemmas.List.{ext_get_or, length-take-le}
 use Rattle.std.proofs.ByRecursion.{All-get_or}
 use Rattle.dump.specs.Heaps.{Numeral, empty_numeral}
 use Rattle.numeral.specs.Numerals.{is_numeral, is_pair}
@@ -28,12 +27,11 @@ module _ (h : Checked) (i : ℕ) (there : i < length (model h).numerals) where
         let numeral : is_numeral t ≡ true = ap is_numeral is ∙ pair_numeral row.bits row.digits pair in
         All-get_or (λ c. c < 128) t k 0 under (ascii_units t (numeral_units t numeral))
 
-    pub text_more : (before buffer : List ℕ) (k v : ℕ) → k < length before → k < length t → buffer ≡ paste before 0 t k → v ≡ get_or t k 0 → set buffer k v ≡ paste before 0 t (k + 1)
-    text_more before buffer k v room under so_far at =
-        let e : set buffer k v ≡ set (paste before 0 t k) (0 + k) (get_or t k 0) = λ j. set (so_far j) (sym (zero-add k) j) (at j) in
-        e ∙ paste_more before 0 t k 0 (omega (arith, zero-add k)) under
+    -- the front of a buffer that the digits fill, and that they are there
+    module _ (buffer : List ℕ) (n : ℕ) (long : n ≡ length t) (room : 400 ≤ length buffer) where
+      pub front_long : length (take n buffer) ≡ length t
+      front_long = length-take-le n buffer (omega (arith, text_short)) ∙ long
 
-    pub text_all : (before buffer : List ℕ) (k : ℕ) → k ≡ length t → buffer ≡ paste before 0 t k → buffer ≡ row.digits ++ drop (length t) before
-    text_all before buffer k end written =
-        let e : t ++ drop (0 + k) before ≡ row.digits ++ drop (length t) before = λ j. is j ++ drop ((zero-add k ∙ end) j) before in
-        written ∙ paste_all before 0 t k end ∙ e
+      pub front_filled : (front : List ℕ) (k : ℕ) → length front ≡ length (take n buffer) → k ≡ length (take n buffer) → ((j : ℕ) → j < k → get_or front j 0 ≡ get_or t j 0) → front ≡ row.digits
+      front_filled front k same end written =
+          ext_get_or 0 front t (same ∙ front_long) (λ j h. written j (omega arith)) ∙ is

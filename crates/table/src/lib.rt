@@ -28,7 +28,7 @@ impl<'a> Table<'a> {
 }
 
 impl Table<'_> {
-    // The first row with these bits.
+    // The first row with these bits. The rows are in no order, and there is no heap for a table of them.
     fn find(&self, bits: u64) -> Option<usize>
         ensures { Finds (model self.now.rows).numerals bits result }
     {
@@ -44,8 +44,8 @@ impl Table<'_> {
         ensures written { buffer.new ≡ (slice_index_or (model self.now.rows).numerals i empty_numeral).digits ++ drop result buffer.old }
     {
         let text = self.rows.numeral_digits(i);
-        for k in 0..text.len() {
-            buffer[k] = text.unit(k) as u8;
+        for (k, byte) in buffer[..text.len()].iter_mut().enumerate() {
+            *byte = text.unit(k) as u8;
         }
         text.len()
     }

@@ -24,7 +24,8 @@ const TWO_AND_A_HALF: u64 = 0x4004_0000_0000_0000;
 // What the buffer holds before.
 const FILL: u8 = 0x23;
 
-// The buffer begins with `text`, and the rest is as it was.
+// The buffer begins with `text`, and the rest is as it was. Tests see no helpers of another crate's tests, so
+// this and the next stand in the crate `speller_tests`, too, and the dump in `numbers_tests`.
 fn holds(buffer: &[u8], text: &[u8]) -> bool {
     buffer
         .strip_prefix(text)
@@ -44,11 +45,15 @@ fn spells(
     assert!(rt; holds(buffer, text), "at {bits}");
 }
 
+fn table_of<'a>(rt: &impl Abort, dump: &'a [u8]) -> Table<'a> {
+    let mut heap = Heap::new();
+    assert!(rt; heap.check(dump).is_ok());
+    Table::new(heap.checked())
+}
+
 #[test]
 fn two(rt: HostRuntime) {
-    let mut heap = Heap::new();
-    assert!(rt; heap.check(TWO).is_ok());
-    let table = Table::new(heap.checked());
+    let table = table_of(&rt, TWO);
     for (bits, text) in [(MINUS_ZERO, "-0"), (ONE_AND_A_HALF, "1.5")] {
         // In the least buffer and in a larger one.
         let answer = Ok(text.len());
@@ -67,9 +72,7 @@ fn two(rt: HostRuntime) {
 
 #[test]
 fn none(rt: HostRuntime) {
-    let mut heap = Heap::new();
-    assert!(rt; heap.check(NONE).is_ok());
-    let table = Table::new(heap.checked());
+    let table = table_of(&rt, NONE);
     let unspelled = Err(SpellFault::Unspelled);
     spells(&rt, &table, &mut [FILL; 400], ZERO, unspelled, b"");
     let short = Err(SpellFault::Short);
@@ -78,9 +81,7 @@ fn none(rt: HostRuntime) {
 
 #[test]
 fn scratch(rt: HostRuntime) {
-    let mut heap = Heap::new();
-    assert!(rt; heap.check(TWO).is_ok());
-    let table = Table::new(heap.checked());
+    let table = table_of(&rt, TWO);
     let mut buffer = [FILL; 400];
     assert_eq!(rt; numeral_of(&table, TWO_AND_A_HALF, &mut buffer), None);
     assert!(rt; holds(&buffer, b""));

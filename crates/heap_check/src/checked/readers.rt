@@ -24,7 +24,8 @@ impl<'a> Checked<'a> {
         Texts { raw: self.raw }
     }
 
-    // How many texts there are, and below parts, numerals and objects.
+    // How many texts there are, and below parts, numerals and objects: with a section as a parameter the root
+    // would have a count, too. A reader asks for an index in range, as a slice's index does.
     pub fn texts(&self) -> usize
         ensures { result ≡ self.now.raw.layout.texts.count }
     {
@@ -98,7 +99,7 @@ impl<'a> Checked<'a> {
         part_of(&self.sound_texts(), self.raw.row(i), k)
     }
 
-    // A unit of a text.
+    // A unit of a text, and below a byte of a buffer: readers of this type, as all that a heap holds is read by it.
     pub fn unit(&self, text: Text<'_>, k: usize) -> u16
         requires { k < length (text_units text) }
         ensures { result ≡ slice_index (text_units text.entry) k }
@@ -106,7 +107,6 @@ impl<'a> Checked<'a> {
         text.unit(k)
     }
 
-    // A byte of a buffer.
     pub fn byte(&self, octets: &[u8], k: usize) -> u8
         requires { k < length octets.now }
         ensures { result ≡ slice_index octets.now k }

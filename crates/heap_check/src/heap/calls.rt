@@ -44,6 +44,7 @@ const EMPTY_LAYOUT: Layout = Layout {
     },
 };
 
+// A `TryFrom<&[u8]> for Checked` beside these was tried: it proves, but `rt check` stops at a function that calls it.
 impl<'a> Heap<'a> {
     // The heap with nothing in it, and the root undefined.
     pub fn new() -> Heap<'a>

@@ -1,7 +1,7 @@
 use Rattle.std.proofs.Common.{rules, tests}
 use Rattle.std.proofs.lemmas.Iterator.{YieldsList-from_slice, YieldsList-from_map}
 use Rattle.std.proofs.lemmas.Iterator.Search.{all_from_yields_List}
-use Rattle.dump.specs.Texts.{little}
+use Rattle.dump.specs.Bytes.{little}
 use Rattle.numeral.specs.Digits.{is_digit}
 use Rattle.numeral.proofs.Values.{are_digits_lem}
 use Rattle.numeral.proofs.digits.all_digits.Goals as goal

@@ -1,5 +1,6 @@
 use Rattle.std.proofs.Common.{◌≡◌, ◌≤◌, drop, map}
-use Rattle.dump.specs.Texts.{little, text_units}
+use Rattle.dump.specs.Bytes.{little}
+use Rattle.dump.specs.Texts.{text_units}
 use Rattle.numeral.specs.Digits.{number_within}
 use Rattle.numeral.proofs.Values.{within_from}
 use Rattle.numeral.proofs.digits.number_within.Given as goal

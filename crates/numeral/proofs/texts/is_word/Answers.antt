@@ -2,7 +2,8 @@ use Rattle.std.proofs.Common.{◌≡◌, ℕ, eqb, rules, tests, arith}
 use Rattle.std.specs.List.{list_all, zip}
 use Rattle.std.proofs.lemmas.Iterator.{YieldsList-from_slice, YieldsList-from_map, YieldsList-from_zip}
 use Rattle.std.proofs.lemmas.Iterator.Search.{all_from_yields_List}
-use Rattle.dump.specs.Texts.{little, text_units}
+use Rattle.dump.specs.Bytes.{little}
+use Rattle.dump.specs.Texts.{text_units}
 use Rattle.numeral.proofs.Orders.{same_zip}
 use Rattle.numeral.proofs.texts.is_word.Goals as goal
 

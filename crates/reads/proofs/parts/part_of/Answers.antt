@@ -1,5 +1,5 @@
 -- Each way gives the part that stands at its place.
-use Rattle.std.proofs.Common.{rules, arith}
+use Rattle.std.proofs.Common.{rules}
 use Rattle.dump.specs.Raws.{bytes}
 use Rattle.dump.specs.Heaps.{no_part}
 use Rattle.reads.proofs.Listed.{part_at_lem}

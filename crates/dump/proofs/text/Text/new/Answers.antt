@@ -1,4 +1,3 @@
-use Rattle.std.proofs.Common.{arith}
 use Rattle.dump.proofs.Texts.{run_units}
 use Rattle.dump.proofs.text.Text.new.Goals as goal
 

@@ -1,5 +1,4 @@
 -- A row of the heap is that of its object.
-use Rattle.std.proofs.Common.{◌∙◌}
 use Rattle.heap_check.proofs.Held.{an_object, kind_at_lem, row_at_lem}
 use Rattle.heap_check.proofs.checked.Checked.kind.Goals as goal
 

@@ -1,5 +1,5 @@
 -- A numeral names a text that there is.
-use Rattle.std.proofs.Common.{sym, ap, ◌∙◌}
+use Rattle.std.proofs.Common.{sym, ap}
 use Rattle.dump.specs.Heaps.{Numeral}
 use Rattle.reads.proofs.Sound.{numeral_placed}
 use Rattle.heap_check.specs.Heaps.{dump_of}

@@ -1,10 +1,9 @@
-use Rattle.std.proofs.Common.{◌∙◌, arith, rules, tests}
-use Rattle.std.proofs.lemmas.Iterator.{YieldsList-from_range}
-use Rattle.std.proofs.lemmas.Iterator.Search.{any_from_yields_List}
-use Rattle.dump.proofs.Rules.{any_in_range}
+use Rattle.std.proofs.Common.{sym, arith, rules}
+use Rattle.dump.proofs.Rules.{any_none, any_found}
 use Rattle.rules.proofs.part.Part.same_before.Goals as goal
 
-pub returns : goal.returns
-returns c =
-    any_from_yields_List _ _ _ _ c.any.ensures.ran (YieldsList-from_range 0 c.args.self.now.k c.args.self.now.k (cc) (omega arith)) (λ x b q k. search (rules, tests))
-    ∙ any_in_range _ c.args.self.now.k
+pub returns-then-same_zero : goal.returns-then-same_zero
+returns-then-same_zero c = sym (any_found _ c.loop-j.j c.args.self.now.k c.loop-j.invariant (search rules) (omega arith))
+
+pub loop-j-preserved : goal.loop-j-preserved
+loop-j-preserved c = any_none _ c.loop-j.j c.loop-j.invariant (search rules)

@@ -1,8 +1,0 @@
-use Rattle.std.proofs.Common.{◌≡◌, ℕ, ◌<◌, false, length, get_or}
-use Rattle.dump.specs.Places.{text_of}
-use Rattle.dump.specs.Raws.{bytes}
-use Rattle.numeral.specs.Numerals.{is_big_int}
-use Rattle.rules.proofs.texts.Texts.marks.Given as goal
-
-abbrev pub invariant-loop-i : goal.invariant-loop-i
-invariant-loop-i l = (length l.flags ≡ 8192) × ((k : ℕ) → k < l.i → get_or l.flags k false ≡ is_big_int (text_of (bytes l.self.raw) l.self.raw.layout k))

@@ -1,8 +1,0 @@
-use Rattle.std.proofs.Common.{◌≡◌, Ok}
-use Rattle.dump.specs.Raws.{bytes}
-use Rattle.dump.specs.Rules.{each}
-use Rattle.rules.specs.Texts.{text_row}
-use Rattle.rules.proofs.texts.text_rows.Given as goal
-
-abbrev pub invariant-loop-i : goal.invariant-loop-i
-invariant-loop-i l = each (text_row (bytes l.raw) l.raw.layout) l.i ≡ Ok tt
