@@ -5,7 +5,7 @@ use Rattle.dump.specs.declared.refusal.Refusal.{Refusal}
 use Rattle.dump.specs.Heaps.{Heap as Meant}
 use Rattle.rules.specs.Verdicts.{verdict}
 use Rattle.heap_check.specs.declared.heap.Heap.{Heap}
-use Rattle.heap_check.specs.Heaps.{model, Answers}
+use Rattle.heap_check.specs.Heaps.{Answers}
 use Rattle.counter.specs.declared.Summary.{Summary}
 use Rattle.counter.specs.Judged.{Found, Limited, Judged}
 
@@ -13,16 +13,9 @@ found_err : (v : Result Meant Refusal) (r : Result Summary Refusal) (e : Refusal
 found_err (Ok m) r e h h' a q = absurd (let x = a.0 in let z : ◌≡◌ {A = ℕ} 0 1 = cc in omega arith)
 found_err (Err x) r e h h' a q = let y = a.0 in let z : e ≡ x = cc in q ∙ ap Err z
 
-found_ok : (v : Result Meant Refusal) (s : Summary) (h h' : Heap) → Answers v (Ok tt) h h' → s.objects ≡ length (model h'.checked).objects → s.numerals ≡ length (model h'.checked).numerals → Found v (Ok s)
-found_ok (Ok m) s h h' a p q = (p ∙ ap (λ (x : Meant). length x.objects) a.1, q ∙ ap (λ (x : Meant). length x.numerals) a.1)
-found_ok (Err x) s h h' a p q = absurd (let y = a.0 in let z : ◌≡◌ {A = ℕ} 0 1 = cc in omega arith)
-
 limited : (b : List ℕ) (r : Result Summary Refusal) → length b ≤ 65536 → Found (verdict b) r → Judged b r
 limited b r h f = subst (λ t. Limited t b r) (sym (le-ltb 65536 (length b) h)) f
 
 module _ (b : List ℕ) (small : length b ≤ 65536) (h h' : Heap) where
   pub refused : (r : Result Summary Refusal) (e : Refusal) → Answers (verdict b) (Err e) h h' → r ≡ Err e → Judged b r
   refused r e a q = limited b r small (found_err (verdict b) r e h h' a q)
-
-  pub accepted : (s : Summary) → Answers (verdict b) (Ok tt) h h' → s.objects ≡ length (model h'.checked).objects → s.numerals ≡ length (model h'.checked).numerals → Judged b (Ok s)
-  accepted s a p q = limited b (Ok s) small (found_ok (verdict b) s h h' a p q)

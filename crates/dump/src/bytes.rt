@@ -19,7 +19,7 @@ pub fn joined(low: u32, high: u32) -> u64
     u64::from(low) + u64::from(high) * 0x1_0000_0000
 }
 
-// Every byte is below 256: a loop of no effect, which tells that of a whole slice.
+// Every byte is below 256: a loop of no effect, which tells that of a whole slice. It goes over bytes, and counts none.
 pub fn are_bytes(dump: &[u8])
     ensures { are_bytes dump.now ≡ true }
 {

@@ -62,7 +62,7 @@ pub enum ErrorName {
     UriError,
 }
 
-// A number past the last kind, tag or name.
+// A number past the last kind, tag or name. The four conversions differ in their words: no derive of the kit writes them.
 #[derive(Clone, Copy, Debug, PartialEq, Eq)]
 pub struct Unknown(pub u32);
 

@@ -83,7 +83,7 @@ impl Refusal {
     }
 }
 
-// The numbers of the rule, the section and the record: what is printed no contract says.
+// Prints the numbers of the rule, the section and the record. No contract says what is printed.
 impl fmt::Display for Refusal {
     fn fmt<W: fmt::Write>(&self, f: &mut fmt::Formatter<W>) -> fmt::Result {
         write!(f, "{} {} {}", self.number(), self.section(), self.record)

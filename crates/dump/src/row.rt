@@ -1,7 +1,7 @@
 // The records of the sections of objects, parts and the root, as words.
 
 // Words as they stand in the dump, so a tag or a kind may be unknown, and only the kind says what the others
-// mean: names for them would be those of one kind.
+// mean: names for them would be those of one kind. Whoever asks for the kind or the tag asks `try_from` of the word.
 
 // A value: what it is, and two words of content.
 #[derive(Clone, Copy, Debug, PartialEq, Eq)]

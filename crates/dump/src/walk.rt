@@ -94,6 +94,7 @@ pub fn walk(dump: &[u8]) -> Result<Layout, Refusal>
     ensures is { result ≡ layout_of dump.now }
     ensures within { IfOk result (Laid dump.now) }
 {
+    // Where each ends, the next begins: the sum by itself is no longer than a function for it.
     let texts = section(dump, 0, TEXTS)?;
     let units = section(dump, texts.start + texts.count * TEXTS.size, UNITS)?;
     let numerals = section(dump, units.start + units.count * UNITS.size, NUMERALS)?;

@@ -9,6 +9,7 @@ const ZERO: u16 = 48;
 
 const NINE: u16 = 57;
 
+// Here and below `units.iter().map(unit)`: an iterator as a result would have no type to name.
 // The first unit is `c`.
 pub(crate) fn first_is(text: Text<'_>, c: u16) -> bool
     ensures { result ≡ first_is c (text_units text.entry) }

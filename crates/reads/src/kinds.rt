@@ -18,6 +18,7 @@ fn maybe_text<'a>(texts: &Texts<'a>, number: u32) -> Option<Text<'a>>
     requires { number ≤ texts.now.raw.layout.texts.count }
     ensures { maybe_in result ≡ maybe_text (bytes texts.now.raw) texts.now.raw.layout number }
 {
+    // By `checked_sub` and `map` was tried: that it gives this text did not close.
     if number == 0 {
         None
     } else {

@@ -37,7 +37,8 @@ impl Marks<'_, '_> {
         buffers_ok(row, on)
     }
 
-    // The row `i`, where the rows before it have `parts` parts and `octets` bytes.
+    // The row `i`, by its rules in their order, as a text's row. The rows before it have `parts` parts and `octets` bytes,
+    // two numbers with their bounds: as a type they would be made anew for each row.
     fn object_row(&self, i: usize, parts: usize, octets: usize) -> Result<(), Refusal>
         requires here { i < self.now.raw.layout.objects.count }
         requires parts { (parts ≡ parts_below (bytes self.now.raw) self.now.raw.layout i) × (parts ≤ self.now.raw.layout.parts.count) }

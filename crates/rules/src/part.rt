@@ -74,7 +74,7 @@ impl Part<'_, '_> {
         } else {
             0xffff_ffff
         };
-        if key.low >= most || key.low >= array.unwrap_or(0xffff_ffff) {
+        if key.low >= most || array.is_some_and(|length| key.low >= length) {
             return false;
         }
         if self.k == 0 {
@@ -108,6 +108,7 @@ impl Part<'_, '_> {
         }
     }
 
+    // Each of the next asks the role another thing: as closures of a role they would be no plainer.
     pub(crate) fn key_ok(&self) -> bool
         ensures { result ≡ key_ok (bytes self.now.texts.now.raw) self.now.texts.now.raw.layout self.now.run.role self.now.run.first self.now.k }
     {

@@ -14,7 +14,7 @@ use super::texts::Texts;
 use dump::refusal::{Refusal, Rule, Site};
 use shapes::cell::{place_ok, tag_ok};
 
-// The marks of a dump whose text rows keep their rules.
+// The marks of a dump whose text rows keep their rules. `Marks` alone ask for no such rows, and are used without.
 #[derive(Clone, Copy)]
 pub struct Parts<'m, 'a> {
     pub marks: Marks<'m, 'a>,

@@ -19,7 +19,7 @@ pub enum Role {
     Loose,
 }
 
-// Parts that follow one another in one role.
+// Parts that follow one another in one role, by their numbers, as refusals name them.
 #[derive(Clone, Copy)]
 pub struct PartRun {
     pub role: Role,

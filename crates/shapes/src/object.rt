@@ -1,4 +1,5 @@
-// An object row's words, rule by rule.
+// An object row's words, rule by rule. Each goes by the kind, for itself: one match for all would mix rules that are
+// told by other numbers.
 ghost use Rattle.std.specs.Prelude.{◌≡◌, ◌+◌, ◌^◌, ◌<◌, ◌≤◌, ◌&&◌, ◌==◌, cond, nat_le, Some, None};
 ghost use Rattle.shapes.specs.Rows.{words_ok, numbers_ok, parts_in, bytes_in, runs_ok, bytes_ok, flags_ok, time_ok, limits_ok, view_ok, buffers_ok, tracking};
 
@@ -52,7 +53,7 @@ pub fn numbers_ok(row: Row, texts: usize, objects: usize) -> bool
     }
 }
 
-// How many parts a row has.
+// How many parts a row has, and below bytes, with the bound that its callers' sums need.
 pub fn parts_in(row: Row) -> usize
     ensures { (result ≡ parts_in row) × (result < 2 ^ 33) }
 {
@@ -114,7 +115,7 @@ pub fn bytes_ok(row: Row, begin: usize, total: usize) -> bool
     }
 }
 
-// Bits of a regular expression's flags.
+// Bits of a regular expression's flags, a word of the dump: a type of flags would want contracts of its own.
 const LINEAR: u32 = 64;
 
 const UNICODE: u32 = 16;

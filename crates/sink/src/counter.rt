@@ -1,4 +1,5 @@
-// A counter keeps the number of the bytes.
+// A counter keeps the number of the bytes. What is new, counted and left is told by functions of its own, as of a page:
+// each over another state, so the trait has but what they share.
 ghost use Rattle.std.specs.Prelude.{◌≡◌, ◌+◌, ◌^◌, ◌<◌};
 
 use super::fault::SinkFault;

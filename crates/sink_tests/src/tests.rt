@@ -3,7 +3,7 @@ use super::{count_twice, page_twice, put_lent, repeat, tell_twice};
 use sink::{Counter, Page, Sink, SinkFault, Tally, put_all};
 use std::process::Abort;
 
-// A page over `memory` is given abc.
+// A page over `memory` is given abc. A page and a counter are asked other things, so each has its cases.
 fn paged(
     rt: &impl Abort,
     memory: &mut [u8],

@@ -23,7 +23,7 @@ pub trait Speller {
         ensures is { result ≡ most }
         ensures bound { most ≤ 400 };
 
-    // Writes the numeral to the front of the buffer, and tells its length. A buffer that is too
+    // Writes the numeral to the front of the buffer, and tells its length, as `Read::read` does. A buffer that is too
     // short for the longest numeral is refused first, whatever the bits. Each impl has its own body: one
     // for all would want a type for what was found, and two more functions with promises.
     fn spell(&self, bits: u64, buffer: &mut [u8]) -> Result<usize, SpellFault>

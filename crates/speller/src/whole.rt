@@ -30,6 +30,7 @@ fn size_of(bits: u64) -> Option<u64>
 {
     let x = f64_from_bits_with_nan(without_sign(bits));
     let n = saturating_f64_to_u64(x);
+    // By `then_some` was tried: that it gives this number did not close.
     if n <= LIMIT && n as f64 == x {
         Some(n)
     } else {

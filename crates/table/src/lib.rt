@@ -44,6 +44,7 @@ impl Table<'_> {
         ensures written { buffer.new ≡ (slice_index_or (model self.now.rows).numerals i empty_numeral).digits ++ drop result buffer.old }
     {
         let text = self.rows.numeral_digits(i);
+        // A `zip` with the units was tried: of what it writes the proof knows nothing.
         for (k, byte) in buffer[..text.len()].iter_mut().enumerate() {
             *byte = text.unit(k) as u8;
         }

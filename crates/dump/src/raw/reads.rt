@@ -9,7 +9,7 @@ use super::Raw;
 
 // Each names another word of a row, and asks for an index in range as a slice's index does: one function
 // with the place of the word as a parameter would say less. The results go on as `usize`, so that they are below 2^32 is
-// a clause.
+// a clause; `usize` has no `From<u32>`, so they are widened by `as`, which is proved to lose nothing.
 impl Raw<'_> {
     // The first unit of a text.
     pub fn first(&self, i: usize) -> usize

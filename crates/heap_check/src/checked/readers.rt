@@ -16,6 +16,8 @@ use reads::parts::{part_count, part_of};
 use reads::value::Value;
 use rules::texts::Texts;
 
+// Each reads a row and hands it on, so that callers need not know of rows: what is read by two of them, and by a table,
+// goes by the number of its row.
 impl<'a> Checked<'a> {
     // The texts of a sound dump keep their rules.
     fn sound_texts(&self) -> Texts<'a>

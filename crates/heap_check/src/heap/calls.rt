@@ -18,7 +18,7 @@ use rules::rows::rows;
 const EMPTY: &[u8; 40] =
     b"\0\0\0\0\0\0\0\0\0\0\0\0\0\0\0\0\0\0\0\0\0\0\0\0\x01\0\0\0\0\0\0\0\0\0\0\0\0\0\0\0";
 
-// Where its sections stand, each behind a count.
+// Where its sections stand, each behind a count. By hand: a constant calls no `walk`.
 const EMPTY_LAYOUT: Layout = Layout {
     texts: Section { start: 4, count: 0 },
     units: Section { start: 8, count: 0 },
@@ -44,9 +44,10 @@ const EMPTY_LAYOUT: Layout = Layout {
     },
 };
 
-// A `TryFrom<&[u8]> for Checked` beside these was tried: it proves, but `rt check` stops at a function that calls it.
+// A `TryFrom<&[u8]> for Checked` beside these was tried: it proves, but `rt check` finds no proof of a
+// function that calls it, and tells of a fault of its own.
 impl<'a> Heap<'a> {
-    // The heap with nothing in it, and the root undefined.
+    // The heap with nothing in it, and the root undefined. No generic code asks for a `Default`.
     pub fn new() -> Heap<'a>
         ensures { model result.checked ≡ nothing }
     {
