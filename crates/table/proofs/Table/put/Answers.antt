@@ -1,5 +1,5 @@
 -- Each turn copies one unit, which is a byte.
-use Rattle.std.proofs.Common.{◌≡◌, ◌<◌, ◌≢◌, length, refl, sym, ◌∙◌, arith, get_or-set_other, get_or-set_same, below_more}
+use Rattle.std.proofs.Common.{◌≡◌, ◌<◌, length, refl, sym, ◌∙◌, arith}
 use Rattle.table.proofs.Copies.{text_short, text_ascii, front_long, front_filled}
 use Rattle.dump.specs.Texts.{text_units}
 use Rattle.table.proofs.Table.put.Goals as goal
@@ -20,12 +20,6 @@ overflow_cast-byte c =
     let under : c.loop-k.k < length t = omega arith in
     let a = text_ascii c.args.self.now.rows c.args.i c.requires.row t c.numeral_digits-text.ensures c.loop-k.k under in
     omega (arith, c.unit.ensures)
-
-pub loop-k-preserved : goal.loop-k-preserved
-loop-k-preserved c =
-    below_more _ _
-    (λ j h. let ne : j ≢ c.loop-k.k = omega arith in rw get_or-set_other (c.loop-k.invariant j h))
-    (let lt : c.loop-k.k < length c.loop-k.byte-items = omega (arith, c.loop-k.auto.byte-items) in rw get_or-set_same c.unit.ensures)
 
 pub returns-clause-short : goal.returns-clause-short
 returns-clause-short c =
