@@ -12,7 +12,7 @@ use Rattle.effects.proofs.Options.{none_some, some_is}
 use Rattle.numeral.proofs.Laws.{same_units_lem}
 use Rattle.table.specs.Tables.{numeral_in}
 use Rattle.table.specs.Readings.{reading_in}
-use Rattle.table.specs.Laws.{Apart, either, absent, shaped, distinct}
+use Rattle.table.proofs.Laws.{Apart, either, absent, shaped, distinct}
 use Rattle.traces.specs.Theorem.{Inverse}
 use Rattle.faithful.specs.Dumps.{OwnNumeralsFaithful}
 use Rattle.faithful.proofs.Main.{faithful}

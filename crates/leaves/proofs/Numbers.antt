@@ -11,7 +11,7 @@ use Rattle.numeral.proofs.Laws.{NumeralUnit, numeral_units, bigint_units, pair_n
 use Rattle.formed.specs.Formed.{WholeFits, TimeFits}
 use Rattle.speller.specs.Spelling.{Lawful}
 use Rattle.speller.specs.Whole.{numeral_of}
-use Rattle.speller.specs.Decimals.{minus_is, numeral_is, whole_is, body_is}
+use Rattle.speller.proofs.Decimals.{minus_is, numeral_is, whole_is, body_is}
 use Rattle.script.specs.Items.{signed_decimal, hex_digits}
 use Rattle.evaluator.specs.Options.{and_then, when, or_else}
 use Rattle.evaluator.specs.Stores.{Val, number, big, State, lookup}

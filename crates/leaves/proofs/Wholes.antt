@@ -6,8 +6,8 @@ use Rattle.numeral.specs.Numerals.{whole_bits, finite}
 use Rattle.numeral.proofs.Laws.{pair_finite}
 use Rattle.formed.specs.Formed.{TimeFits}
 use Rattle.speller.specs.Whole.{numeral_of}
-use Rattle.speller.specs.Floats.{bits_of, cut_back}
-use Rattle.speller.specs.Wholes.{signed_is, wholes, shaped}
+use Rattle.speller.proofs.Floats.{bits_of, cut_back}
+use Rattle.speller.proofs.Wholes.{signed_is, wholes, shaped}
 use Rattle.evaluator.specs.Options.{and_then, when}
 use Rattle.evaluator.specs.Makes.{size_bits, cut_to, integer, whole_in, natural, index_in, key_in, within, time_in}
 use Rattle.evaluator.specs.Isomorphic.{whole_double}

@@ -19,6 +19,7 @@ pub fn put_number<S: Speller, K: Sink>(
 ) -> Result<(), NumberFault>
     ensures { Sent K.Sink.means sink.old (S.Speller.means speller.now bits) result sink.new }
 {
+    let _ = S::most();
     let n = speller.spell(bits, scratch)?;
     put_all(sink, &scratch[0..n])?;
     Ok(())

@@ -1,5 +1,5 @@
 // Texts compared unit by unit.
-ghost use Rattle.std.specs.Prelude.{◌≡◌, ◌==◌, not, find};
+ghost use Rattle.std.specs.Prelude.{◌≡◌, ◌==◌, not, position};
 ghost use Rattle.std.specs.List.{zip};
 ghost use Rattle.dump.specs.Texts.{text_units};
 ghost use Rattle.numeral.specs.Words.{same_units};
@@ -21,24 +21,28 @@ pub fn is_word(text: Text<'_>, word: &[u8]) -> bool
             .all(|(c, byte)| c == u16::from(*byte))
 }
 
-// The first units that differ. `lt` of the iterators needs no such pair, and takes twice as long on long texts.
-fn difference(x: Text<'_>, y: Text<'_>) -> Option<(u16, u16)>
-    ensures { result ≡ find (λ p. not (p.0 == p.1)) (zip (text_units x.entry) (text_units y.entry)) }
+// Where the texts first differ. Over slices of one length `zip` tests one end and not two, and `position` counts as an index
+// does: six instructions a unit, where `find` over the whole slices takes eight, and `lt` of the iterators sixteen. On its own,
+// since the loop is so short that its time depends on where it stands.
+#[inline(never)]
+fn difference(x: Text<'_>, y: Text<'_>) -> Option<usize>
+    ensures { result ≡ position (λ p. not (p.0 == p.1)) (zip (text_units x.entry) (text_units y.entry)) }
 {
-    x.units
+    let shared = x.len().min(y.len());
+    x.units[..shared]
         .iter()
         .map(unit)
-        .zip(y.units.iter().map(unit))
-        .find(|(a, b)| a != b)
+        .zip(y.units[..shared].iter().map(unit))
+        .position(|(a, b)| a != b)
 }
 
 // The text `x` comes before the text `y`: the first units that differ decide, and a beginning comes first.
-#[tactic(auto, using(crate::proofs::Orders::before_find))]
+#[tactic(auto, using(crate::proofs::Orders::before_position))]
 pub fn before(x: Text<'_>, y: Text<'_>) -> bool
     ensures { result ≡ is_before (text_units x.entry) (text_units y.entry) }
 {
     match difference(x, y) {
-        Some((a, b)) => a < b,
+        Some(k) => x.unit(k) < y.unit(k),
         None => x.len() < y.len(),
     }
 }

@@ -7,7 +7,7 @@ use Rattle.numeral.specs.Digits.{are_digits, value_from, whole_digits, whole_wit
 use Rattle.numeral.specs.Words.{same_units}
 use Rattle.numeral.proofs.Laws.{same_units_lem}
 use Rattle.formed.specs.Formed.{KeyFormed, KeyBefore}
-use Rattle.speller.specs.Decimals.{body_is, whole_is}
+use Rattle.speller.proofs.Decimals.{body_is, whole_is}
 use Rattle.evaluator.specs.Isomorphic.{key_text}
 
 -- texts with other units

@@ -7,7 +7,7 @@ use Rattle.dump.specs.Heaps.{Text, Value}
 use Rattle.numeral.specs.Numerals.{is_big_int}
 use Rattle.numeral.proofs.Laws.{same_units_lem}
 use Rattle.formed.specs.Formed.{ValueFormed, WholeFits, number_in, SameValueZero, Kept}
-use Rattle.speller.specs.Floats.{bits_of, bits_below, cut_back}
+use Rattle.speller.proofs.Floats.{bits_of, bits_below, cut_back}
 use Rattle.evaluator.specs.Options.{nth}
 use Rattle.evaluator.specs.Stores.{Val, undefined, null, boolean, number, big, text, ref, same_zero, same_integer, same_boolean, plus_zero}
 use Rattle.evaluator.specs.Isomorphic.{Pairing, Alike, big_value, same_value, is_nan, whole_double}

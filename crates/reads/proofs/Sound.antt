@@ -1,11 +1,13 @@
 -- What the rows of a dump that passed say of each row: the texts, objects, parts and bytes that it names are there.
-use Rattle.std.proofs.Common.{◌≡◌, ℕ, ◌+◌, ◌-◌, ◌<◌, ◌≤◌, true, ◌⊎◌, List, is_ok, ⊎_elim, arith}
+use Rattle.std.proofs.Common.{◌≡◌, ℕ, ◌+◌, ◌-◌, ◌*◌, ◌<◌, ◌≤◌, true, ◌⊎◌, List, length, is_ok, ⊎_elim, arith}
 use Rattle.std.proofs.lemmas.Bool.{and_parts, ltb-true}
 use Rattle.std.proofs.lemmas.Bool.Decides.{nat_tests}
 use Rattle.dump.specs.declared.layout.Layout.{Layout}
 use Rattle.dump.specs.declared.row.Row.{Row}
-use Rattle.dump.specs.Places.{numeral_text, row_at, key_at, root_at}
+use Rattle.dump.specs.declared.text.Text.{Text}
+use Rattle.dump.specs.Places.{text_run, text_of, numeral_text, row_at, key_at, root_at}
 use Rattle.dump.specs.Rules.{each}
+use Rattle.dump.specs.Texts.{text_units}
 use Rattle.dump.proofs.Rules.{then_parts, row_passes, judge_holds}
 use Rattle.shapes.specs.Cells.{place_ok}
 use Rattle.shapes.specs.Rows.{words_ok, numbers_ok, bytes_ok}
@@ -15,8 +17,9 @@ use Rattle.rules.specs.Cells.{root_rules, root_row}
 use Rattle.rules.specs.Objects.{object_rules, object_row, object_rows, parts_below, bytes_below}
 use Rattle.rules.specs.Parts.{first_run, second_run, part_rules, part_row, part_run, object_parts, loose_run}
 use Rattle.rules.specs.Verdicts.{rows_of}
-use Rattle.rules.proofs.Sound.{object_passed, first_fits, second_fits}
+use Rattle.rules.proofs.Sound.{run_fits, object_passed, first_fits, second_fits}
 use Rattle.reads.specs.Parts.{part_count, part_place, Placed}
+use Rattle.reads.specs.Typed.{TextFits}
 
 -- the sections that passed, one by one
 pub record Sections (b : List ℕ) (l : Layout) : Type 0 where
@@ -35,6 +38,10 @@ sections b l h =
     let loose = then_parts (part_run b l (loose_run b l)) _ p.1 in
     let r = then_parts (root_row b l) _ loose.1 in
     record { texts = t.0; numerals = n.0; objects = o.0; parts = p.0; root = r.0 }
+
+-- the run of a text ends within the units
+pub text_fits : (b : List ℕ) (l : Layout) (i : ℕ) (t : Text) → is_ok (text_rows b l) ≡ true → l.units.start + l.units.count * 2 ≤ length b → i < l.texts.count → text_units t ≡ text_of b l i → TextFits b t
+text_fits b l i t s units g is = let ends = run_fits b l i s g in (text_run b l i, (omega arith), is)
 
 -- the root, and the text of a numeral
 pub root_placed : (b : List ℕ) (l : Layout) → Sections b l → place_ok l.texts.count l.objects.count (root_at b l) ≡ true

@@ -1,7 +1,10 @@
--- What a typed row means, and that the objects that it names are there.
-use Rattle.std.specs.Prelude.{ℕ, ◌<◌, true, false, Some, None, Option}
+-- What a typed row means, that what it lends lies in the dump, and that the objects that it names are there.
+use Rattle.std.specs.Prelude.{◌≡◌, ℕ, ◌+◌, ◌*◌, ◌<◌, ◌≤◌, true, false, List, length, Some, None, Option}
+use Rattle.dump.specs.declared.row.Run.{Run}
 use Rattle.dump.specs.declared.text.Text.{Text as Units}
+use Rattle.dump.specs.Bytes.{bytes_at}
 use Rattle.dump.specs.Heaps as meant
+use Rattle.dump.specs.Places.{units_of}
 use Rattle.dump.specs.Texts.{text_units}
 use Rattle.reads.specs.declared.value.Value.{Value}
 use Rattle.reads.specs.declared.value.Value.TheVariants.{Undefined, Null, Hole, Boolean, Whole, Double, BigInt, Text, Object}
@@ -55,6 +58,62 @@ part_in (Entry k v) = meant.entry (value_in k) (value_in v)
 part_in (Member v) = meant.member (value_in v)
 part_in (Below i) = meant.below i
 part_in (Cause v) = meant.cause (value_in v)
+
+-- what is lent lies in the dump of the bytes b
+module _ (b : List ℕ) where
+  abbrev pub RunFits : Run → Type 0
+  RunFits r = r.start + r.count * 2 ≤ length b
+
+  -- a text has the units of a run of the dump
+  abbrev pub TextFits : Units → Type 0
+  TextFits t = (r : Run) × RunFits r × (text_units t ≡ units_of b r)
+
+  -- bytes are those of the dump from some place on
+  abbrev pub OctetsFit : List ℕ → Type 0
+  OctetsFit o = (start : ℕ) × (start + length o ≤ length b) × (bytes_at b start (length o) ≡ o)
+
+  abbrev pub MaybeFits : Option Units → Type 0
+  MaybeFits None = Unit {0}
+  MaybeFits (Some t) = TextFits t
+
+  abbrev pub ValueFits : Value → Type 0
+  ValueFits Undefined = Unit {0}
+  ValueFits Null = Unit {0}
+  ValueFits Hole = Unit {0}
+  ValueFits (Boolean x) = Unit {0}
+  ValueFits (Whole n) = Unit {0}
+  ValueFits (Double n) = Unit {0}
+  ValueFits (BigInt t) = TextFits t
+  ValueFits (Text t) = TextFits t
+  ValueFits (Object i) = Unit {0}
+
+  abbrev pub KeyFits : Key → Type 0
+  KeyFits (Index n) = Unit {0}
+  KeyFits (Name t) = TextFits t
+
+  abbrev pub KindFits : Kind → Type 0
+  KindFits (BooleanObject x) = Unit {0}
+  KindFits (NumberObject n) = Unit {0}
+  KindFits (BigIntObject t) = TextFits t
+  KindFits (StringObject t) = TextFits t
+  KindFits (RegExp pattern flags) = TextFits pattern
+  KindFits (Date time) = Unit {0}
+  KindFits Plain = Unit {0}
+  KindFits (Sparse n) = Unit {0}
+  KindFits (Dense n) = Unit {0}
+  KindFits Map = Unit {0}
+  KindFits Set = Unit {0}
+  KindFits (Buffer octets maximum) = OctetsFit octets.now
+  KindFits (View kind offset n) = Unit {0}
+  KindFits (Error name message stack) = MaybeFits message × MaybeFits stack
+
+  abbrev pub PartFits : Part → Type 0
+  PartFits (Property k v) = KeyFits k × ValueFits v
+  PartFits (Element v) = ValueFits v
+  PartFits (Entry k v) = ValueFits k × ValueFits v
+  PartFits (Member v) = ValueFits v
+  PartFits (Below i) = Unit {0}
+  PartFits (Cause v) = ValueFits v
 
 -- an object that a value or a part names is one of n
 module _ (n : ℕ) where

@@ -45,7 +45,7 @@ impl Part<'_, '_> {
         ensures { result ≡ named_by (bytes self.now.texts.now.raw) self.now.texts.now.raw.layout text (self.now.run.first + k) }
     {
         let key = self.key_of(k);
-        Tag::try_from(key.tag) == Ok(Tag::Text) && key.low == text
+        key.tag == Tag::Text as u32 && key.low == text
     }
 
     // The text is the key of a part before this one: with no heap there is no table of keys.

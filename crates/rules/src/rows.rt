@@ -25,10 +25,11 @@ fn all_used(site: Site, used: usize, all: usize) -> Result<(), Refusal>
 pub fn rows(raw: &Raw<'_>) -> Result<(), Refusal>
     ensures { result ≡ rows_of (bytes raw.now) raw.now.layout }
 {
+    // Here and not where they are marked: a function clears its tables as it begins, and would clear them again there.
+    let mut flags = [false; 8192];
     text_rows(raw)?;
     let texts = Texts { raw: *raw };
     texts.numeral_rows()?;
-    let mut flags = [false; 8192];
     texts.mark(&mut flags);
     let marks = Marks {
         raw: *raw,

@@ -38,20 +38,21 @@ pub fn place_ok(cell: Cell, texts: usize, objects: usize) -> bool
 fn is_number(cell: Cell) -> bool
     ensures { result ≡ is_number cell }
 {
-    matches!(
-        Tag::try_from(cell.tag),
-        Ok(Tag::Signed | Tag::Unsigned | Tag::Double)
-    )
+    cell.tag == Tag::Signed as u32
+        || cell.tag == Tag::Unsigned as u32
+        || cell.tag == Tag::Double as u32
 }
 
 // A number of any tag as a double, which holds it exactly.
 fn number(cell: Cell) -> f64
     ensures { result ≡ number_of cell }
 {
-    match Tag::try_from(cell.tag) {
-        Ok(Tag::Signed) => f64::from(cell.low.cast_signed()),
-        Ok(Tag::Unsigned) => f64::from(cell.low),
-        _ => f64_from_bits_with_nan(joined(cell.low, cell.high)),
+    if cell.tag == Tag::Signed as u32 {
+        f64::from(cell.low.cast_signed())
+    } else if cell.tag == Tag::Unsigned as u32 {
+        f64::from(cell.low)
+    } else {
+        f64_from_bits_with_nan(joined(cell.low, cell.high))
     }
 }
 

@@ -1,6 +1,7 @@
 -- Puts in a row: by these a function that puts piece by piece shows what it put in all.
-use Rattle.std.proofs.Common.{◌≡◌, ℕ, suc, ◌+◌, ◌-◌, ◌^◌, ◌<◌, ◌≤◌, Bool, true, false, cond, leb, List, [], ◌∷◌, ◌++◌, length, take, is_err, IsErrAnd, Some, None, Ok, Err, Result, sym, refl, ap, ◌∙◌, subst, ⊎_elim, append-nil, arith, length-append, take_all, le-leb}
+use Rattle.std.proofs.Common.{◌≡◌, ℕ, suc, ◌+◌, ◌-◌, ◌^◌, ◌<◌, ◌≤◌, Bool, true, false, cond, leb, List, [], ◌∷◌, ◌++◌, length, get_or, take, drop, is_err, IsErrAnd, Some, None, Ok, Err, Result, sym, refl, ap, ◌∙◌, subst, ⊎_elim, append-nil, arith, length-append, take-append-drop, take_all, le-leb}
 use borrow.Author.Tests.{lt-leb, true-leb, false-leb}
+use Rattle.std.proofs.lemmas.List.{take_more}
 use Rattle.std.proofs.lemmas.Result.{err_from_is_err_and}
 use Rattle.std.proofs.lemmas.Bool.{cases_eq}
 use Rattle.sink.specs.declared.fault.SinkFault.{SinkFault}
@@ -127,3 +128,15 @@ module _ {K : Type 0} {m : Meaning K} where
         stays = ap m.place p.2;
         small = λ _. omega (arith, p.1);
       }
+
+  -- the bytes up to i, and then the one at i
+  pub put_more : (k k' k'' : K) (xs : List ℕ) (i : ℕ) (r : Result Unit SinkFault) → i < length xs → Put m k (take i xs) (Ok tt) k' → Put m k' (get_or xs i 0 ∷ []) r k'' → Put m k (take (i + 1) xs) r k''
+  put_more k k' k'' xs i r h p q = rw (take_more xs i 0 h) (put_then p q)
+
+  -- the bytes up to i are all
+  pub put_whole : (k k' : K) (xs : List ℕ) (i : ℕ) (r : Result Unit SinkFault) → length xs ≤ i → Put m k (take i xs) r k' → Put m k xs r k'
+  put_whole k k' xs i r h p = rw (take_all i xs h) at p
+
+  -- it stopped among the bytes up to i
+  pub put_part : (k k' : K) (xs : List ℕ) (i : ℕ) (f : SinkFault) → Put m k (take i xs) (Err f) k' → Put m k xs (Err f) k'
+  put_part k k' xs i f p = rw (take-append-drop i xs) at (put_stops (drop i xs) p)

@@ -1,2 +1,5 @@
+pub mod Floats
+pub mod Decimals
+pub mod Wholes
 pub mod Sizes
 pub mod Examples

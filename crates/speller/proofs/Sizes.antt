@@ -5,7 +5,7 @@ use Rattle.std.proofs.lemmas.Bool.{le-leb, lt-leb}
 use Rattle.std.proofs.lemmas.Bool.Decides.{nat_tests}
 use Rattle.numeral.specs.Numerals.{signed, whole_bits}
 use Rattle.speller.specs.Whole.{plain, cut, size_of}
-use Rattle.speller.specs.Floats.{double, bits_of, equal_bits}
+use Rattle.speller.proofs.Floats.{double, bits_of, equal_bits}
 
 -- bits are compared with the sign's or without
 without_sign : (bits w : ℕ) → eqb bits (w + cond (leb 9223372036854775808 bits) 9223372036854775808 0) ≡ eqb (cond (leb 9223372036854775808 bits) (bits - 9223372036854775808) bits) w

@@ -18,7 +18,7 @@ pub trait Speller {
     // member of the same name, so `most` does.
     ghost most: { ℕ };
 
-    // `LONGEST`, with its promise.
+    // `LONGEST`, with its promise, for code that knows a speller only by this trait.
     fn most() -> usize
         ensures is { result ≡ most }
         ensures bound { most ≤ 400 };
@@ -29,24 +29,14 @@ pub trait Speller {
     fn spell(&self, bits: u64, buffer: &mut [u8]) -> Result<usize, SpellFault>
         ensures { Spells (means self.now bits) most buffer.old result buffer.new };
 
-    // 400 bytes have room for every numeral.
-    ghost bound: { most ≤ 400 };
-
-    // No numeral occurs twice.
-    ghost apart: { (speller : Self) → Distinct (means speller) };
-
-    // Each numeral may be given for its double.
-    ghost fit: { (speller : Self) → Shaped (means speller) };
-
-    // Promises that no numeral occurs twice.
-    final fn distinct(&self)
-        ensures { Distinct (means self.now) }
-    {}
+    // Promises that no numeral occurs twice. This and the next are calls and no laws: a law would range over values that
+    // no speller of the type has, as a field that is larger than its type.
+    fn distinct(&self)
+        ensures { Distinct (means self.now) };
 
     // Promises that each numeral may be given for its double.
-    final fn shaped(&self)
-        ensures { Shaped (means self.now) }
-    {}
+    fn shaped(&self)
+        ensures { Shaped (means self.now) };
 }
 
 // Both promises of a speller.
@@ -66,6 +56,7 @@ pub fn numeral_of<S: Speller>(
 ) -> Option<usize>
     ensures { Found (S.Speller.means speller.now bits) scratch.old result scratch.new }
 {
-    // The scratch is too short for no numeral, so the one refusal is that there is none.
+    // Its promise is that the scratch is too short for no numeral, so the one refusal is that there is none.
+    let _ = S::most();
     speller.spell(bits, scratch).ok()
 }

@@ -1,8 +1,6 @@
 // The speller of whole numbers.
 ghost use Rattle.std.specs.Prelude.{◌≡◌, ◌<◌, ◌≤◌, ◌++◌, length, drop, IfSome};
-ghost use Rattle.std.proofs.Common.{rules};
 ghost use Rattle.speller.specs.Whole.{numeral_of, plain, size_of, whole, Wholes};
-ghost use Rattle.speller.specs.Wholes.{distinct, shaped};
 
 use super::decimal::put_decimal;
 use super::fault::SpellFault;
@@ -39,7 +37,8 @@ fn size_of(bits: u64) -> Option<u64>
 }
 
 // Writes the number to the front, and tells how long it is. The sign is apart: `-0` is no integer.
-#[tactic(auto, using(crate::specs::Decimals::decimal_short))]
+#[tactic(auto, using(crate::proofs::Decimals::decimal_short))]
+#[inline(always)]
 fn put_whole(negative: bool, n: u64, buffer: &mut [u8]) -> usize
     requires { (n ≤ 9007199254740991) × (17 ≤ length buffer.old) }
     ensures long { result ≡ length (numeral_of negative n) }
@@ -65,6 +64,7 @@ impl Speller for Whole {
         Self::LONGEST
     }
 
+    #[inline(always)]
     fn spell(&self, bits: u64, buffer: &mut [u8]) -> Result<usize, SpellFault> {
         if buffer.len() < Self::LONGEST {
             return Err(SpellFault::Short);
@@ -75,16 +75,14 @@ impl Speller for Whole {
         Ok(put_whole(bits >= SIGN, n, buffer))
     }
 
-    ghost bound = { Prim.search rules };
+    fn distinct(&self) {}
 
-    ghost apart = { λ _. distinct };
-
-    ghost fit = { λ _. shaped };
+    fn shaped(&self) {}
 }
 
 impl Whole {
     // Promises that the numerals are those of the whole numbers below 2^53 in size, and no others.
-    #[tactic(auto, using(crate::specs::Wholes::wholes))]
+    #[tactic(auto, using(crate::proofs::Wholes::wholes))]
     pub fn exact(&self)
         ensures { Wholes whole }
     {}

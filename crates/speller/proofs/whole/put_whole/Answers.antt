@@ -1,6 +1,6 @@
 -- The minus takes no room that the digits need.
 use Rattle.std.proofs.Common.{arith, length-set}
-use Rattle.speller.specs.Decimals.{decimal_short}
+use Rattle.speller.proofs.Decimals.{decimal_short}
 use Rattle.speller.proofs.whole.put_whole.Goals as goal
 
 pub put_decimal-requires : goal.put_decimal-requires

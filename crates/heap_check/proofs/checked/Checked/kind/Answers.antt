@@ -10,5 +10,8 @@ kind_of-requires c =
     let row = row_at_lem c.args.self.now c.args.i c.requires c.row.result c.row.ensures in
     rw c.sound_texts.ensures (record { placed = row.numbers; known = row.known; within = row.within })
 
-pub returns : goal.returns
-returns c = rw (c.kind_of.ensures, c.sound_texts.ensures) (kind_at_lem c.args.self.now c.args.i c.requires c.row.result c.row.ensures)
+pub returns-clause-is : goal.returns-clause-is
+returns-clause-is c = rw (c.kind_of.ensures.is, c.sound_texts.ensures) (kind_at_lem c.args.self.now c.args.i c.requires c.row.result c.row.ensures)
+
+pub returns-clause-fits : goal.returns-clause-fits
+returns-clause-fits c = rw c.sound_texts.ensures at c.kind_of.ensures.fits

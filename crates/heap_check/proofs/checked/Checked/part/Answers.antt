@@ -17,5 +17,8 @@ returns-clause-is c =
     rw (c.part_of.ensures.is, c.sound_texts.ensures)
     (ap (λ (ps : List Part). get_or ps c.args.k no_part) (parts_at c.args.self.now c.args.i c.requires.object c.row.result c.row.ensures))
 
+pub returns-clause-fits : goal.returns-clause-fits
+returns-clause-fits c = rw c.sound_texts.ensures at c.part_of.ensures.fits
+
 pub returns-clause-there : goal.returns-clause-there
 returns-clause-there c = rw (objects_are, ← c.sound_texts.ensures) c.part_of.ensures.there

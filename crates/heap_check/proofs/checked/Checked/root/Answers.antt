@@ -9,5 +9,8 @@ value_of-requires c =
     let h = c.args.self.now in
     rw (c.sound_texts.ensures, c.root.ensures) (root_placed (dump_of h) h.raw.layout (passed h))
 
+pub returns-clause-fits : goal.returns-clause-fits
+returns-clause-fits c = rw c.sound_texts.ensures at c.value_of.ensures.fits
+
 pub returns-clause-there : goal.returns-clause-there
 returns-clause-there c = rw (objects_are, ← c.sound_texts.ensures) c.value_of.ensures.there

@@ -6,8 +6,8 @@ use Rattle.numeral.proofs.Laws.{pair_whole}
 use Rattle.numeral.specs.Numerals.{whole_of, whole_bits, finite, signed, same, is_double, is_pair}
 use Rattle.speller.specs.Spelling.{Distinct, Shaped}
 use Rattle.speller.specs.Whole.{numeral_of, plain, cut, size_of, spelled, whole, Wholes}
-use Rattle.speller.specs.Floats.{bits_of, bits_below, cut_back}
-use Rattle.speller.specs.Decimals.{minus_is, numeral_short, numeral_is, whole_is}
+use Rattle.speller.proofs.Floats.{bits_of, bits_below, cut_back}
+use Rattle.speller.proofs.Decimals.{minus_is, numeral_short, numeral_is, whole_is}
 
 -- the bits of a whole number
 module _ (n : ℕ) (small : n ≤ 9007199254740991) where
