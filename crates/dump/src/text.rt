@@ -4,7 +4,7 @@ ghost use Rattle.dump.specs.Bytes.{little};
 
 use super::row::Run;
 
-// The units lie in the dump: a run that leaves it is no text.
+// The units of a text that `new` makes lie in the dump: a run that leaves it is no text. The type alone does not say so.
 #[derive(Clone, Copy)]
 pub struct Text<'a> {
     pub units: &'a [[u8; 2]],

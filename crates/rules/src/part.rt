@@ -12,7 +12,7 @@ use dump::kinds::Tag;
 use dump::row::Cell;
 use numeral::digits::is_index;
 use numeral::texts::is_word;
-use shapes::cell::{minus_zero, same_zero};
+use shapes::cell::{Sought, minus_zero};
 
 // The part `k` of a run of parts. A text that is its key is there.
 #[derive(Clone, Copy)]
@@ -121,14 +121,15 @@ impl Part<'_, '_> {
         }
     }
 
-    // A part before this one is the same as `cell`. A `for`: by `any` a Map of 8,192 texts takes 33 ms, and not 23.
+    // A part before this one is the same as `cell`. A `for`: by `any` Maps of 8,192 texts take 1.4 times as long.
     fn same_before(&self, cell: Cell) -> bool
         ensures { result ≡ any_below (λ j. same_zero cell (identity_of (bytes self.now.texts.now.raw) self.now.texts.now.raw.layout self.now.run.role (self.now.run.first + j))) self.now.k }
     {
         let raw = &self.texts.raw;
         let PartRun { role, first, .. } = self.run;
+        let sought = Sought::new(cell);
         for j in 0..self.k {
-            if same_zero(cell, role.identity(raw, first + j)) {
+            if sought.is(role.identity(raw, first + j)) {
                 return true;
             }
         }

@@ -3,6 +3,8 @@ use Rattle.std.specs.Prelude.{ℕ, Bool, true, cond, ◌&&◌, ◌||◌, pos, �
 use Rattle.std.specs.Float.Ieee as Ieee
 use Rattle.std.specs.Float.{binary64}
 use Rattle.dump.specs.declared.row.Cell.{Cell}
+use Rattle.shapes.specs.declared.cell.Sort.{Sort}
+use Rattle.shapes.specs.declared.cell.Sort.TheVariants.{Number, Nan, Other}
 use Rattle.dump.specs.Meaning.{joined, signed32}
 
 -- a known tag, and zero in each word that it does not use; a hole only where it may stand
@@ -30,6 +32,10 @@ number_of v =
     cond (v.tag == 3) (Ieee.of_int binary64 (signed32 v.low))
     (cond (v.tag == 4) (Ieee.of_int binary64 (pos v.low))
     (Ieee.of_bits binary64 (joined v.low v.high)))
+
+-- what a value is to SameValueZero
+abbrev pub sort_of : Cell → Sort
+sort_of v = cond (is_number v) (cond (Ieee.is_nan (number_of v)) Nan (Number (number_of v))) Other
 
 -- equal as doubles, all NaN alike
 abbrev pub same_number : Float → Float → Bool

@@ -1,6 +1,6 @@
 // A value's words: tags, numbers inside their sections, and SameValueZero.
 ghost use Rattle.std.specs.Prelude.{◌≡◌};
-ghost use Rattle.shapes.specs.Cells.{tag_ok, place_ok, is_number, number_of, same_number, same_zero, minus_zero};
+ghost use Rattle.shapes.specs.Cells.{tag_ok, place_ok, is_number, number_of, sort_of, same_number, same_zero, minus_zero};
 
 use dump::bytes::joined;
 use dump::kinds::Tag;
@@ -34,7 +34,7 @@ pub fn place_ok(cell: Cell, texts: usize, objects: usize) -> bool
     }
 }
 
-// Apart from `number`: with one function that answers an `Option`, a Map with 8192 texts as keys takes 1.7 times as long or more.
+// Apart from `number`: with one function that answers an `Option`, Sets of 16,384 whole numbers take 2.4 times as long.
 fn is_number(cell: Cell) -> bool
     ensures { result ≡ is_number cell }
 {
@@ -71,6 +71,49 @@ pub fn same_zero(v: Cell, w: Cell) -> bool
         same_number(number(v), number(w))
     } else {
         v == w
+    }
+}
+
+// What a cell is to SameValueZero: NaN is no number that `==` finds.
+#[derive(Clone, Copy)]
+enum Sort {
+    Number(f64),
+    Nan,
+    Other,
+}
+
+// A cell that is looked for among many. What it is, is found once: by `same_zero` of each, Sets of 16,384 whole numbers
+// take 1.6 times as long.
+#[derive(Clone, Copy)]
+pub struct Sought {
+    pub cell: Cell,
+    sort: Sort,
+    ghost found: { sort ≡ sort_of cell },
+}
+
+impl Sought {
+    pub fn new(cell: Cell) -> Sought
+        ensures { result.cell ≡ cell }
+    {
+        let sort = if !is_number(cell) {
+            Sort::Other
+        } else if number(cell).is_nan() {
+            Sort::Nan
+        } else {
+            Sort::Number(number(cell))
+        };
+        Sought { cell, sort }
+    }
+
+    // As `same_zero` tells.
+    pub fn is(&self, other: Cell) -> bool
+        ensures { result ≡ same_zero self.now.cell other }
+    {
+        match self.sort {
+            Sort::Number(x) => is_number(other) && x == number(other),
+            Sort::Nan => same_zero(self.cell, other),
+            Sort::Other => self.cell == other,
+        }
     }
 }
 

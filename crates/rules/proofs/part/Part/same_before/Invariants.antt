@@ -6,4 +6,4 @@ use Rattle.rules.specs.Parts.{identity}
 use Rattle.rules.proofs.part.Part.same_before.Given as goal
 
 abbrev pub invariant-loop-j : goal.invariant-loop-j
-invariant-loop-j l = any_below (λ j. same_zero l.cell (identity (bytes l.self.texts.now.raw) l.self.texts.now.raw.layout l.self.run.role (l.self.run.first + j))) l.j ≡ false
+invariant-loop-j l = any_below (λ j. same_zero l.sought.cell (identity (bytes l.self.texts.now.raw) l.self.texts.now.raw.layout l.self.run.role (l.self.run.first + j))) l.j ≡ false
