@@ -83,7 +83,7 @@ enum Sort {
 }
 
 // A cell that is looked for among many. What it is, is found once: by `same_zero` of each, Sets of 16,384 whole numbers
-// take 1.6 times as long.
+// take 2.7 times as long.
 #[derive(Clone, Copy)]
 pub struct Sought {
     pub cell: Cell,
